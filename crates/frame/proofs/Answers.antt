@@ -1,0 +1,143 @@
+-- The frames to prove, worked out: what is answered and written, the order of the causes, and touches.
+-- Assumes nothing.
+use mathlib.Core.Path.{_≡_, refl}
+use mathlib.Core.Bool.{true, false}
+use mathlib.Core.List.{List, [], _∷_, _++_, map, zipWith}
+use Prim.Native.Nat.{ℕ}
+use lib.ListN.{replicate}
+use Rattle.groups.specs.Groups.{Edge, merge, rep, isRoot, count, groups, gather, pairs}
+use Rattle.groups.specs.Numbers.{number}
+use Rattle.frame.specs.Shape.{size, width, leading, coords}
+use Rattle.frame.specs.Structure.{offset, backward, on, leftOn}
+use Rattle.frame.specs.ChainRule.{nonzero, sameList, any, leadsBy, step, edges, groupCount, label, range, labels, sizeOf, sizesOf}
+use Rattle.frame.specs.Runs.{goesOn, beginsRun, runs, Run, stretches, singles, lineRuns, lineOf, frameRuns, allRuns, lineStart, run}
+use Rattle.frame.specs.Touches.{reaches, used, hasNbr, nbrLine, touchesBy, touchesOf, touches, frameTouches}
+use Rattle.frame.specs.Kinds.{nz, nzℤ, nzF, flags, u8, u16, u32, largest}
+use Rattle.frame.specs.Memory.{perLine, wordsNeeded}
+use Rattle.frame.specs.Causes.{badRank, hasZero, tooLarge, firstCause, openTests, openCause, feedCause, readCause, sizesCause, frameCause}
+use Rattle.frame.specs.Plain.{unless, kept, feeds, n, figures, cause, answer, written, next, plain, session}
+use Rattle.frame.specs.Frames.{asked, nine, slips, refusals, frames}
+
+-- what the computation of a session opens
+computed : Unit {0}
+unfolding merge rep isRoot count groups gather pairs number size width leading coords offset backward on leftOn nonzero sameList any leadsBy step edges groupCount label range labels sizeOf sizesOf goesOn beginsRun runs nz nzℤ nzF flags largest perLine wordsNeeded badRank hasZero tooLarge firstCause openTests openCause feedCause readCause sizesCause unless kept feeds n figures cause answer written next plain session zipWith
+computed = tt
+
+-- ---- the fact: every session of the list is answered as it stands there
+
+pub frames-right : map asked frames ≡ map (λ f. f .answers) frames
+unfolding asked frames nine slips refusals computed
+frames-right = refl
+
+-- ---- causes: of each call, what is wrong is mended one cause at a time
+
+order : List ℕ
+order =
+    feedCause false 1 2 3 5
+    ∷ feedCause true 1 2 3 5
+    ∷ feedCause true 2 2 3 5
+    ∷ feedCause true 2 2 3 6
+    ∷ readCause false 8 9 256 (largest u8)
+    ∷ readCause true 8 9 256 (largest u8)
+    ∷ readCause true 9 9 256 (largest u8)
+    ∷ readCause true 9 9 255 (largest u8)
+    ∷ readCause true 9 9 65536 (largest u16)
+    ∷ readCause true 9 9 65535 (largest u16)
+    ∷ readCause true 9 9 4294967296 (largest u32)
+    ∷ readCause true 9 9 4294967295 (largest u32)
+    ∷ sizesCause false 3 2
+    ∷ sizesCause true 3 2
+    ∷ sizesCause true 2 2
+    ∷ frameCause (3 ∷ 3 ∷ []) (replicate 9 1) 27 8 8 256 (largest u8)
+    ∷ frameCause (3 ∷ 3 ∷ []) (replicate 9 1) 28 8 8 256 (largest u8)
+    ∷ frameCause (3 ∷ 3 ∷ []) (replicate 9 1) 28 9 8 256 (largest u8)
+    ∷ frameCause (3 ∷ 3 ∷ []) (replicate 9 1) 28 9 9 256 (largest u8)
+    ∷ frameCause (3 ∷ 3 ∷ []) (replicate 9 1) 28 9 9 255 (largest u8)
+    ∷ []
+
+order-right : order ≡ 6 ∷ 7 ∷ 8 ∷ 0 ∷ 6 ∷ 9 ∷ 10 ∷ 0 ∷ 10 ∷ 0 ∷ 10 ∷ 0 ∷ 6 ∷ 9 ∷ 0 ∷ 5 ∷ 8 ∷ 9 ∷ 10 ∷ 0 ∷ []
+unfolding order frameCause computed
+order-right = refl
+
+-- ---- touches: the runs of a frame's lines, and which touch, by offset in C order
+
+record Worked : Type 0 where
+  shape : List ℕ
+  structure : List ℕ
+  cells : List ℕ
+  runs : List Run
+  touching : List Edge
+
+work : Worked → Worked
+work f =
+    let cells = map nz (f .cells) in
+    let L = size (leading (f .shape)) in
+    record {
+      shape = f .shape;
+      structure = f .structure;
+      cells = f .cells;
+      runs = allRuns (f .shape) (f .structure) cells L;
+      touching = frameTouches (f .shape) (f .structure) cells 0 L;
+    }
+
+abbrev r : ℕ → ℕ → Run
+r s e = record { start = s; end = e }
+
+abbrev t : ℕ → ℕ → Edge
+t a b = record { from = a; to = b }
+
+worked : List Worked
+worked =
+    -- frame 1
+    record {
+      shape = 3 ∷ 3 ∷ [];
+      structure = 0 ∷ 1 ∷ 0 ∷ 1 ∷ 1 ∷ 1 ∷ 0 ∷ 1 ∷ 0 ∷ [];
+      cells = 1 ∷ 0 ∷ 1 ∷ 1 ∷ 0 ∷ 1 ∷ 1 ∷ 1 ∷ 1 ∷ [];
+      runs = r 0 1 ∷ r 2 3 ∷ r 0 1 ∷ r 2 3 ∷ r 0 3 ∷ [];
+      touching = t 2 0 ∷ t 3 1 ∷ t 4 2 ∷ t 4 3 ∷ [];
+    }
+    -- frame 4: by bytes -1 and +1, the middle byte 0
+    ∷ record {
+      shape = 2 ∷ 3 ∷ [];
+      structure = 1 ∷ 0 ∷ 1 ∷ 0 ∷ 0 ∷ 0 ∷ 1 ∷ 0 ∷ 1 ∷ [];
+      cells = replicate 6 1;
+      runs = r 0 1 ∷ r 1 2 ∷ r 2 3 ∷ r 0 1 ∷ r 1 2 ∷ r 2 3 ∷ [];
+      touching = t 3 1 ∷ t 4 0 ∷ t 4 2 ∷ t 5 1 ∷ [];
+    }
+    -- the middle byte alone reaches no further than the run
+    ∷ record {
+      shape = 2 ∷ 4 ∷ [];
+      structure = 0 ∷ 1 ∷ 0 ∷ 1 ∷ 0 ∷ 0 ∷ 0 ∷ 0 ∷ 0 ∷ [];
+      cells = 0 ∷ 1 ∷ 0 ∷ 1 ∷ 1 ∷ 0 ∷ 1 ∷ 0 ∷ [];
+      runs = r 1 2 ∷ r 3 4 ∷ r 0 1 ∷ r 2 3 ∷ [];
+      touching = [];
+    }
+    -- both sides, the middle byte 0: one touch for one offset
+    ∷ record {
+      shape = 2 ∷ 3 ∷ [];
+      structure = 1 ∷ 0 ∷ 1 ∷ 1 ∷ 0 ∷ 0 ∷ 0 ∷ 0 ∷ 0 ∷ [];
+      cells = replicate 6 1;
+      runs = r 0 3 ∷ r 0 3 ∷ [];
+      touching = t 1 0 ∷ [];
+    }
+    -- offset -1,-1,0 of rank 3: two lines and a column of lines back, and no neighbour at the border
+    ∷ record {
+      shape = 2 ∷ 2 ∷ 1 ∷ [];
+      structure = replicate 1 0 ++ 1 ∷ replicate 25 0;
+      cells = replicate 4 1;
+      runs = r 0 1 ∷ r 0 1 ∷ r 0 1 ∷ r 0 1 ∷ [];
+      touching = t 3 0 ∷ [];
+    }
+    -- offset -1,+1,+1 of rank 3, its last byte alone: the neighbour's line is the one before
+    ∷ record {
+      shape = 2 ∷ 2 ∷ 2 ∷ [];
+      structure = replicate 8 0 ++ 1 ∷ replicate 18 0;
+      cells = replicate 8 1;
+      runs = r 0 1 ∷ r 1 2 ∷ r 0 1 ∷ r 1 2 ∷ r 0 1 ∷ r 1 2 ∷ r 0 1 ∷ r 1 2 ∷ [];
+      touching = t 4 3 ∷ [];
+    }
+    ∷ []
+
+touches-right : map work worked ≡ worked
+unfolding work worked stretches singles lineRuns lineOf frameRuns allRuns lineStart run reaches used hasNbr nbrLine touchesBy touchesOf touches computed
+touches-right = refl

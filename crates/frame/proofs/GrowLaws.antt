@@ -1,0 +1,100 @@
+-- More lines fed: the old lines' runs and touches stand, and the new ones follow them.
+-- Assumes nothing.
+use mathlib.Core.Path.{_≡_, sym, ap, ap₂, _∙_}
+use mathlib.Core.Bool.{Bool}
+use mathlib.Core.List.{List, [], _++_}
+use Prim.Native.Nat.{ℕ, suc, _+_, _-_, _*_, _≤_, _<_}
+use native.Mathlib.Nat.{le-refl, zero-add, suc-mul, add-mul, mul-le-mul-right}
+use native.Mathlib.Omega.{arith}
+use lib.ListN.{length, getD, take, drop, length-drop, List·getD-append}
+use lib.Seq.{take-append-le, drop-append-le, drop-append-add}
+use Rattle.groups.specs.Groups.{Edge, gather, rep, joins, visit}
+use Rattle.groups.proofs.GatherLaws.{gather-split, gather-same}
+use Rattle.groups.proofs.VisitLaws.{visit-append, rep-over, joins-over}
+use Rattle.frame.specs.Shape.{width, leading, lines}
+use Rattle.frame.specs.Structure.{leftOn}
+use Rattle.frame.specs.Runs.{Run, none, lineRuns, lineOf, frameRuns, allRuns, lineStart, run}
+use Rattle.frame.specs.Touches.{frameTouches}
+use Rattle.frame.proofs.ShapeLaws.{Fits}
+use Rattle.frame.proofs.FrameRunLaws.{start-le}
+use Rattle.frame.proofs.TouchLaws.{touches-split, touches-same}
+
+-- a line that was fed keeps its cells
+line-stays : (w : ℕ) (cells more : List Bool) (ℓ : ℕ) → suc ℓ * w ≤ length cells → lineOf w (cells ++ more) ℓ ≡ lineOf w cells ℓ
+unfolding lineOf
+line-stays w cells more ℓ h =
+    let a : ℓ * w ≤ length cells = omega (arith, suc-mul ℓ w) in
+    ap (take w) (drop-append-le (ℓ * w) cells more a) ∙ take-append-le w (drop (ℓ * w) cells) more (omega (arith, suc-mul ℓ w, length-drop (ℓ * w) cells))
+
+-- a new line has the new cells alone
+line-new : (w : ℕ) (cells more : List Bool) (n i : ℕ) → length cells ≡ n * w → lineOf w (cells ++ more) (n + i) ≡ lineOf w more i
+unfolding lineOf
+line-new w cells more n i e =
+    let a : (n + i) * w ≡ length cells + i * w = add-mul n i w ∙ ap (λ (k : ℕ). k + i * w) (sym e) in
+    ap (λ (k : ℕ). take w (drop k (cells ++ more))) a ∙ ap (take w) (drop-append-add cells more (i * w))
+
+-- a run of the first n lines is found among those alone
+run-first : (shape structure : List ℕ) (cells : List Bool) (n r : ℕ) → n ≤ lines shape → r < lineStart shape structure cells n → run shape structure cells r ≡ getD (allRuns shape structure cells n) r none
+unfolding run lineStart allRuns
+run-first shape structure cells n r h l =
+    let e : lines shape ≡ n + (lines shape - n) = omega arith in
+    ap (λ (m : ℕ). getD (gather (frameRuns shape structure cells) 0 m) r none) e
+    ∙ ap (λ (rs : List Run). getD rs r none) (gather-split (frameRuns shape structure cells) 0 n (lines shape - n))
+    ∙ List·getD-append (gather (frameRuns shape structure cells) 0 n) (gather (frameRuns shape structure cells) (0 + n) (lines shape - n)) none r l
+
+module _ (shape structure : List ℕ) (cells more : List Bool) (n : ℕ) (F : Fits shape n cells) where
+  -- ---- runs
+
+  pub runs-stay : (ℓ : ℕ) → ℓ < n → frameRuns shape structure (cells ++ more) ℓ ≡ frameRuns shape structure cells ℓ
+  unfolding frameRuns
+  runs-stay ℓ h = ap (lineRuns (leftOn shape structure)) (line-stays (width shape) cells more ℓ (rw (F .whole) (mul-le-mul-right (width shape) h)))
+
+  pub runs-new : (i : ℕ) → frameRuns shape structure (cells ++ more) (n + i) ≡ lineRuns (leftOn shape structure) (lineOf (width shape) more i)
+  unfolding frameRuns
+  runs-new i = ap (lineRuns (leftOn shape structure)) (line-new (width shape) cells more n i (F .whole))
+
+  all-stay : (ℓ : ℕ) → ℓ ≤ n → allRuns shape structure (cells ++ more) ℓ ≡ allRuns shape structure cells ℓ
+  unfolding allRuns
+  all-stay ℓ h = gather-same (frameRuns shape structure (cells ++ more)) (frameRuns shape structure cells) 0 ℓ (λ k l u. runs-stay k (omega arith))
+
+  pub starts-stay : (ℓ : ℕ) → ℓ ≤ n → lineStart shape structure (cells ++ more) ℓ ≡ lineStart shape structure cells ℓ
+  unfolding lineStart
+  starts-stay ℓ h = ap length (all-stay ℓ h)
+
+  pub run-stays : (r : ℕ) → r < lineStart shape structure cells n → run shape structure (cells ++ more) r ≡ run shape structure cells r
+  run-stays r h =
+      run-first shape structure (cells ++ more) n r (F .below) (rw (starts-stay n (le-refl n)) h)
+      ∙ ap (λ (rs : List Run). getD rs r none) (all-stay n (le-refl n))
+      ∙ sym (run-first shape structure cells n r (F .below) h)
+
+  pub runs-grow : (k : ℕ) → allRuns shape structure (cells ++ more) (n + k) ≡ allRuns shape structure cells n ++ gather (frameRuns shape structure (cells ++ more)) n k
+  unfolding allRuns
+  runs-grow k =
+      gather-split (frameRuns shape structure (cells ++ more)) 0 n k
+      ∙ ap₂ (λ (x : List Run) (m : ℕ). x ++ gather (frameRuns shape structure (cells ++ more)) m k) (all-stay n (le-refl n)) (zero-add n)
+
+  -- ---- touches
+
+  pub touches-stay : frameTouches shape structure (cells ++ more) 0 n ≡ frameTouches shape structure cells 0 n
+  touches-stay =
+      touches-same (leading shape) structure (lineStart shape structure (cells ++ more)) (lineStart shape structure cells) (run shape structure (cells ++ more)) (run shape structure cells) n starts-stay (start-le shape structure (cells ++ more))
+      (λ r h. run-stays r (rw (starts-stay n (le-refl n)) at h)) (F .below) 0 n (omega arith)
+
+  pub touches-grow : (k : ℕ) → frameTouches shape structure (cells ++ more) 0 (n + k) ≡ frameTouches shape structure cells 0 n ++ frameTouches shape structure (cells ++ more) n k
+  touches-grow k =
+      touches-split (leading shape) structure (lineStart shape structure (cells ++ more)) (run shape structure (cells ++ more)) 0 n k
+      ∙ ap₂ (λ (x : List Edge) (m : ℕ). x ++ frameTouches shape structure (cells ++ more) m k) touches-stay (zero-add n)
+
+  -- ---- groups
+
+  -- the new lines' touches, visited after any edges that group the old runs as their touches do, group all runs as all touches do
+  module _ (k : ℕ) (old : List Edge) (right : (a : ℕ) → rep old a ≡ rep (visit (frameTouches shape structure cells 0 n) []) a) where
+    both : visit (frameTouches shape structure (cells ++ more) n k) (visit (frameTouches shape structure cells 0 n) []) ≡ visit (frameTouches shape structure (cells ++ more) 0 (n + k)) []
+    both = sym (visit-append (frameTouches shape structure cells 0 n) (frameTouches shape structure (cells ++ more) n k) []) ∙ ap (λ (l : List Edge). visit l []) (sym (touches-grow k))
+
+    pub rep-grow : (a : ℕ) → rep (visit (frameTouches shape structure (cells ++ more) n k) old) a ≡ rep (visit (frameTouches shape structure (cells ++ more) 0 (n + k)) []) a
+    rep-grow a = rep-over (frameTouches shape structure (cells ++ more) n k) old (visit (frameTouches shape structure cells 0 n) []) right a ∙ ap (λ (l : List Edge). rep l a) both
+
+    -- and count the joins that were missing
+    pub joins-grow : joins (visit (frameTouches shape structure (cells ++ more) n k) old) + joins (visit (frameTouches shape structure cells 0 n) []) ≡ joins (visit (frameTouches shape structure (cells ++ more) 0 (n + k)) []) + joins old
+    joins-grow = joins-over (frameTouches shape structure (cells ++ more) n k) old (visit (frameTouches shape structure cells 0 n) []) right ∙ ap (λ (l : List Edge). joins l + joins old) both

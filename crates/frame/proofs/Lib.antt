@@ -1,0 +1,16 @@
+pub mod Answers
+pub mod ShapeLaws
+pub mod StructureLaws
+pub mod ChainRuleLaws
+pub mod LineLaws
+pub mod RunLaws
+pub mod FrameRunLaws
+pub mod NbrLaws
+pub mod ReachLaws
+pub mod TouchLaws
+pub mod LinkLaws
+pub mod RunGroupLaws
+pub mod GrowLaws
+pub mod KindLaws
+pub mod CauseLaws
+pub mod PlainLaws

@@ -1,0 +1,72 @@
+-- The plain session: its lines are lines of the frame, runs = n + joins, 6 never comes, and lines fed in pieces are lines fed.
+-- Assumes nothing.
+use mathlib.Core.Path.{_≡_, refl, sym, ap₂, _∙_}
+use mathlib.Core.Logic.{_≢_}
+use mathlib.Core.Bool.{Bool, true, false, cond}
+use mathlib.Core.List.{List, [], _∷_, _++_, append-assoc}
+use Prim.Native.Nat.{ℕ, _+_, _-_, _*_, _≤_, _<_}
+use native.Mathlib.Nat.{add-mul, add-assoc, zero-mul}
+use native.Mathlib.Omega.{arith}
+use borrow.Author.Tests.{eqb-true}
+use lib.Dec.{eqb}
+use lib.ListN.{length, length-append}
+use Rattle.frame.specs.Shape.{size, width, lines}
+use Rattle.frame.specs.Runs.{runs}
+use Rattle.frame.specs.Kinds.{flags, largest}
+use Rattle.frame.specs.Plain.{Call, feed, read, sizes, State, opened, feeds, n, figures, cause, next, after}
+use Rattle.frame.proofs.ShapeLaws.{Fits}
+use Rattle.frame.proofs.RunLaws.{count-runs}
+use Rattle.frame.proofs.CauseLaws.{feed-accepted, feed-six, read-six, sizes-six}
+
+module _ (shape : List ℕ) where
+  abbrev pub FitsIn : State → Type 0
+  FitsIn p = Fits shape (p .fed) (p .cells)
+
+  -- ---- the lines fed are lines of the frame, each with its cells
+
+  pub opened-fits : (structure : List ℕ) → 0 < length shape → FitsIn (opened structure)
+  opened-fits structure h = record { ranked = h; below = omega arith; whole = sym (zero-mul (width shape)) }
+
+  pub feeds-fits : (p : State) (k : ℕ) (cells : List Bool) → FitsIn p → k ≤ lines shape - p .fed → length cells ≡ k * width shape → FitsIn (feeds p k cells)
+  unfolding feeds
+  feeds-fits p k cells F h e =
+      record {
+        ranked = F .ranked;
+        below = omega (arith, F .below);
+        whole = length-append (p .cells) cells ∙ ap₂ (λ (x : ℕ) (y : ℕ). x + y) (F .whole) e ∙ sym (add-mul (p .fed) k (width shape));
+      }
+
+  pub next-fits : (p : State) (c : Call) → FitsIn p → FitsIn (next shape p c)
+  unfolding next
+  next-fits p (read kind out) F = F
+  next-fits p (sizes out) F = F
+  next-fits p (feed k cells) F = go (eqb (cause shape p (feed k cells)) 0) refl
+    where
+      go : (b : Bool) → eqb (cause shape p (feed k cells)) 0 ≡ b → FitsIn (cond (eqb (cause shape p (feed k cells)) 0) (feeds p k (flags cells)) p)
+      go true t = rw t (let a = feed-accepted true (lines shape - p .fed) k (width shape) (length (flags cells)) (unfold cause in eqb-true _ _ t) in feeds-fits p k (flags cells) F (a .1) (a .2))
+      go false t = rw t F
+
+  pub after-fits : (cs : List Call) (p : State) → FitsIn p → FitsIn (after shape p cs)
+  unfolding after
+  after-fits [] p F = F
+  after-fits (c ∷ cs) p F = after-fits cs (next shape p c) (next-fits p c F)
+
+  -- ---- figures
+
+  -- runs = n + joins: the subtraction in the definition hides nothing
+  pub balanced : (p : State) → figures shape p .runs ≡ n shape p + figures shape p .joins
+  unfolding figures n
+  balanced p = omega (arith, count-runs shape (p .structure) (p .cells))
+
+  -- ---- causes
+
+  pub six-never : (p : State) (c : Call) → cause shape p c ≢ 6
+  unfolding cause
+  six-never p (feed k cells) = feed-six (lines shape - p .fed) k (width shape) (length (flags cells))
+  six-never p (read kind out) = read-six (length out) (size shape) (n shape p) (largest kind)
+  six-never p (sizes out) = sizes-six (length out) (n shape p)
+
+-- two feeds leave what one feed of all their lines does
+pub feeds-feeds : (p : State) (k j : ℕ) (xs ys : List Bool) → feeds (feeds p k xs) j ys ≡ feeds p (k + j) (xs ++ ys)
+unfolding feeds
+feeds-feeds p k j xs ys = ap₂ (λ (m : ℕ) (l : List Bool). record { structure = p .structure; fed = m; cells = l }) (add-assoc (p .fed) k j) (append-assoc (p .cells) xs ys)

@@ -1,0 +1,63 @@
+-- What follows of the groups of runs: n is their count, a cell's number is its run's, and runs = n + joins.
+-- Assumes nothing.
+use mathlib.Core.Path.{_≡_, sym, ap, _∙_, subst}
+use mathlib.Core.Bool.{Bool, true, cond}
+use mathlib.Core.List.{List, [], append-nil}
+use Prim.Native.Nat.{ℕ, _+_, _<_}
+use native.Mathlib.Nat.{zero-add}
+use native.Mathlib.Omega.{arith}
+use Rattle.groups.specs.Groups.{Edge, Joined, groups, joins, visit}
+use Rattle.groups.specs.Numbers.{number}
+use Rattle.groups.proofs.ChainLaws.{chain-map}
+use Rattle.groups.proofs.RepLaws.{Ends}
+use Rattle.groups.proofs.VisitLaws.{visit-joined, joined-visit, ends-visit}
+use Rattle.frame.specs.Shape.{size, leading}
+use Rattle.frame.specs.ChainRule.{nonzero, groupCount, label}
+use Rattle.frame.specs.Runs.{runs, runOf, lineStart, run}
+use Rattle.frame.specs.Touches.{frameTouches}
+use Rattle.frame.proofs.ShapeLaws.{Fits, fits-size}
+use Rattle.frame.proofs.RunLaws.{runs-count, runs-label, runs-joins}
+use Rattle.frame.proofs.FrameRunLaws.{start-le, runs-all}
+use Rattle.frame.proofs.TouchLaws.{touches-below}
+use Rattle.frame.proofs.LinkLaws.{linked-steps, steps-linked}
+
+module _ (shape structure : List ℕ) (cells : List Bool) (n : ℕ) (F : Fits shape n cells) where
+  -- both runs of every touch are runs of the fed lines
+  pub touches-runs : Ends (λ r. r < runs shape structure cells) (frameTouches shape structure cells 0 n)
+  touches-runs =
+      subst (λ (k : ℕ). Ends (λ r. r < k) (frameTouches shape structure cells 0 n)) (ap (lineStart shape structure cells) (zero-add n) ∙ sym (runs-all shape structure cells n F))
+      (touches-below (leading shape) structure (lineStart shape structure cells) (run shape structure cells) (start-le shape structure cells) 0 n (omega (arith, F .below)))
+
+  -- for every list that joins what the touches join, in any order and with repeats
+  module _ (es : List Edge) (into : (a b : ℕ) → Joined es a b → Joined (frameTouches shape structure cells 0 n) a b) (onto : (a b : ℕ) → Joined (frameTouches shape structure cells 0 n) a b → Joined es a b) where
+    -- n of the cells is the number of groups of runs
+    pub groups-runs : groups (λ r. true) es (runs shape structure cells) ≡ groupCount shape structure cells
+    groups-runs =
+        runs-count shape structure cells (fits-size shape n cells F) es (λ r s h. linked-steps shape structure cells n F r s (chain-map into h)) (λ r s h. chain-map onto (steps-linked shape structure cells n F r s h))
+
+    -- a cell's number is its run's
+    pub number-runs : (p : ℕ) → p < size shape → cond (nonzero cells p) (number (λ r. true) es (runOf shape structure cells p)) 0 ≡ label shape structure cells p
+    number-runs =
+        runs-label shape structure cells (fits-size shape n cells F) es (λ r s h. linked-steps shape structure cells n F r s (chain-map into h)) (λ r s h. chain-map onto (steps-linked shape structure cells n F r s h))
+
+    -- runs = n + joins
+    pub joins-runs : Ends (λ r. r < runs shape structure cells) es → groupCount shape structure cells + joins es ≡ runs shape structure cells
+    joins-runs =
+        runs-joins shape structure cells (fits-size shape n cells F) es (λ r s h. linked-steps shape structure cells n F r s (chain-map into h)) (λ r s h. chain-map onto (steps-linked shape structure cells n F r s h))
+
+  -- ---- the touches, visited one after the other
+
+  into : (a b : ℕ) → Joined (visit (frameTouches shape structure cells 0 n) []) a b → Joined (frameTouches shape structure cells 0 n) a b
+  into a b h = rw append-nil at (visit-joined (frameTouches shape structure cells 0 n) [] a b h)
+
+  onto : (a b : ℕ) → Joined (frameTouches shape structure cells 0 n) a b → Joined (visit (frameTouches shape structure cells 0 n) []) a b
+  onto a b h = joined-visit (frameTouches shape structure cells 0 n) [] a b (rw append-nil h)
+
+  pub groups-visited : groups (λ r. true) (visit (frameTouches shape structure cells 0 n) []) (runs shape structure cells) ≡ groupCount shape structure cells
+  groups-visited = groups-runs _ into onto
+
+  pub number-visited : (p : ℕ) → p < size shape → cond (nonzero cells p) (number (λ r. true) (visit (frameTouches shape structure cells 0 n) []) (runOf shape structure cells p)) 0 ≡ label shape structure cells p
+  number-visited = number-runs _ into onto
+
+  pub joins-visited : groupCount shape structure cells + joins (visit (frameTouches shape structure cells 0 n) []) ≡ runs shape structure cells
+  joins-visited = joins-runs _ into onto (ends-visit (λ r. r < runs shape structure cells) (frameTouches shape structure cells 0 n) [] touches-runs tt)

@@ -1,0 +1,69 @@
+-- The causes of a refusal, and each call's order of them.
+-- Assumes nothing.
+use mathlib.Core.Bool.{Bool, false, not, cond, _||_}
+use mathlib.Core.List.{List, [], _∷_, _++_}
+use Prim.Native.Nat.{ℕ, _*_, _^_}
+use lib.Dec.{eqb, ltb, leb}
+use lib.ListN.{length}
+use Rattle.frame.specs.Shape.{size, width, leading, lines}
+use Rattle.frame.specs.Memory.{wordsNeeded}
+
+-- ---- conditions on a shape, which a record's shape must not meet either
+
+-- 1: rank 0 or above 4
+unfoldable pub badRank : List ℕ → Bool
+badRank shape = eqb (length shape) 0 || ltb 4 (length shape)
+
+-- 3: a leading dimension is 0
+unfoldable pub hasZero : List ℕ → Bool
+hasZero [] = false
+hasZero (d ∷ ds) = eqb d 0 || hasZero ds
+
+-- 4: w ≥ 2,147,483,647, or L or L × w ≥ 4,294,967,293
+unfoldable pub tooLarge : List ℕ → Bool
+tooLarge shape = leb 2147483647 (width shape) || (leb 4294967293 (lines shape) || leb 4294967293 (size shape))
+
+-- ---- order
+
+-- a condition, with the number of the cause that it is
+pub record Test : Type 0 where
+  pub holds : Bool
+  pub number : ℕ
+
+abbrev pub when : Bool → ℕ → Test
+when holds number = record { holds = holds; number = number }
+
+-- the number of the first cause whose condition holds, or 0 where none does
+unfoldable pub firstCause : List Test → ℕ
+firstCause [] = 0
+firstCause (t ∷ ts) = cond (t .holds) (t .number) (firstCause ts)
+
+-- opening: 1 to 5, where `memory` is the count of words
+unfoldable pub openTests : List ℕ → List ℕ → ℕ → List Test
+openTests shape structure memory =
+    when (badRank shape) 1
+    ∷ when (not (eqb (length structure) (3 ^ length shape))) 2
+    ∷ when (hasZero (leading shape)) 3
+    ∷ when (tooLarge shape) 4
+    ∷ when (ltb memory (wordsNeeded shape structure)) 5
+    ∷ []
+
+unfoldable pub openCause : List ℕ → List ℕ → ℕ → ℕ
+openCause shape structure memory = firstCause (openTests shape structure memory)
+
+-- feed: 6, 7, 8. Whether the record is sound, the lines left, k, w, and the count of cells
+unfoldable pub feedCause : Bool → ℕ → ℕ → ℕ → ℕ → ℕ
+feedCause sound left k w cells = firstCause (when (not sound) 6 ∷ when (ltb left k) 7 ∷ when (not (eqb cells (k * w))) 8 ∷ [])
+
+-- reading: 6, 9, 10. Whether the record is sound, the output's length, L × w, n, and the kind's largest number
+unfoldable pub readCause : Bool → ℕ → ℕ → ℕ → ℕ → ℕ
+readCause sound length size n largest = firstCause (when (not sound) 6 ∷ when (not (eqb length size)) 9 ∷ when (ltb largest n) 10 ∷ [])
+
+-- sizes: 6, 9. Whether the record is sound, the slice's length, and n
+unfoldable pub sizesCause : Bool → ℕ → ℕ → ℕ
+sizesCause sound length n = firstCause (when (not sound) 6 ∷ when (not (eqb length n)) 9 ∷ [])
+
+-- whole frame: 1 to 5, 8, 9, 10. The counts of words, of cells and of output places, n, and the kind's largest number
+unfoldable pub frameCause : List ℕ → List ℕ → ℕ → ℕ → ℕ → ℕ → ℕ → ℕ
+frameCause shape structure memory cells out n largest =
+    firstCause (openTests shape structure memory ++ when (not (eqb cells (size shape))) 8 ∷ when (not (eqb out (size shape))) 9 ∷ when (ltb largest n) 10 ∷ [])

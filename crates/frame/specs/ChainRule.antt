@@ -1,0 +1,79 @@
+-- The chain rule: which fed nonzero cells make one group, how many groups there are, and each cell's number.
+-- Assumes nothing.
+use mathlib.Core.Path.{_≡_}
+use mathlib.Core.Logic.{_⊎_}
+use mathlib.Core.Bool.{Bool, true, false, _&&_, _||_}
+use mathlib.Core.List.{List, [], _∷_, map, zipWith}
+use Prim.Native.Nat.{ℕ, zero, suc, _+_, _^_, _<_}
+use lib.Dec.{eqb}
+use lib.ListN.{length, getD}
+use Rattle.groups.specs.Groups.{Edge, count, groups, pairs}
+use Rattle.groups.specs.Numbers.{number}
+use Rattle.frame.specs.Shape.{size, coords}
+use Rattle.frame.specs.Structure.{offset, backward, Moved, on}
+
+-- cell p is fed and nonzero, where `cells` says of each fed cell, in C order, whether it is nonzero
+unfoldable pub nonzero : List Bool → ℕ → Bool
+nonzero cells p = getD cells p false
+
+-- a backward offset with a nonzero structure byte leads from p to q
+pub record Leads (shape structure : List ℕ) (p q : ℕ) : Type 0 where
+  pub code : ℕ
+  pub is-code : code < 3 ^ length shape
+  pub is-backward : backward (offset (length shape) code) ≡ true
+  pub is-on : on structure code ≡ true
+  pub leads : Moved (coords shape p) (offset (length shape) code) (coords shape q)
+
+-- document 01's step: between two fed nonzero cells whose coordinates differ by such an offset, either way.
+-- A chain is `Chain (Step shape structure cells)`, and a group is a fed nonzero cell with all that chains join to it
+pub record Step (shape structure : List ℕ) (cells : List Bool) (p q : ℕ) : Type 0 where
+  pub here : nonzero cells p ≡ true
+  pub there : nonzero cells q ≡ true
+  pub way : Leads shape structure p q ⊎ Leads shape structure q p
+
+-- ---- computed
+
+unfoldable pub sameList : List ℕ → List ℕ → Bool
+sameList [] [] = true
+sameList [] (y ∷ ys) = false
+sameList (x ∷ xs) [] = false
+sameList (x ∷ xs) (y ∷ ys) = eqb x y && sameList xs ys
+
+-- is there a number below n that passes?
+unfoldable pub any : (ℕ → Bool) → ℕ → Bool
+any f zero = false
+any f (suc n) = f n || any f n
+
+unfoldable pub leadsBy : List ℕ → List ℕ → ℕ → ℕ → ℕ → Bool
+leadsBy shape structure p q c =
+    backward (offset (length shape) c) && (on structure c && sameList (zipWith _+_ (coords shape p) (offset (length shape) c)) (map suc (coords shape q)))
+
+unfoldable pub step : List ℕ → List ℕ → List Bool → ℕ → ℕ → Bool
+step shape structure cells p q = nonzero cells p && (nonzero cells q && any (leadsBy shape structure p q) (3 ^ length shape))
+
+unfoldable pub edges : List ℕ → List ℕ → List Bool → List Edge
+edges shape structure cells = pairs (step shape structure cells) 0 (length cells) 0 (length cells)
+
+-- document 01's n: how many groups the chain rule makes of the fed nonzero cells
+unfoldable pub groupCount : List ℕ → List ℕ → List Bool → ℕ
+groupCount shape structure cells = groups (nonzero cells) (edges shape structure cells) (size shape)
+
+-- a cell's number: 0, or that of its group. Groups are numbered 1 to n by their first cells in C order
+unfoldable pub label : List ℕ → List ℕ → List Bool → ℕ → ℕ
+label shape structure cells p = number (nonzero cells) (edges shape structure cells) p
+
+-- n numbers, from i on
+unfoldable pub range : ℕ → ℕ → List ℕ
+range i zero = []
+range i (suc n) = i ∷ range (suc i) n
+
+-- the numbers of all cells, in C order
+unfoldable pub labels : List ℕ → List ℕ → List Bool → List ℕ
+labels shape structure cells = map (label shape structure cells) (range 0 (size shape))
+
+-- how many cells have number g, and that for each number in turn
+unfoldable pub sizeOf : List ℕ → List ℕ → List Bool → ℕ → ℕ
+sizeOf shape structure cells g = count (λ p. eqb (label shape structure cells p) g) (size shape)
+
+unfoldable pub sizesOf : List ℕ → List ℕ → List Bool → List ℕ
+sizesOf shape structure cells = map (sizeOf shape structure cells) (range 1 (groupCount shape structure cells))

@@ -1,0 +1,10 @@
+pub mod Shape
+pub mod Structure
+pub mod ChainRule
+pub mod Runs
+pub mod Touches
+pub mod Kinds
+pub mod Memory
+pub mod Causes
+pub mod Plain
+pub mod Frames

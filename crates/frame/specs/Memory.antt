@@ -1,0 +1,19 @@
+-- The words of working memory that a session needs.
+-- Assumes nothing.
+use mathlib.Core.Bool.{cond}
+use mathlib.Core.List.{List}
+use Prim.Native.Nat.{ℕ, _+_, _*_, _/_}
+use Rattle.frame.specs.Shape.{width, lines}
+use Rattle.frame.specs.Structure.{leftOn}
+
+-- how many words a run has: start, end, parent, name
+abbrev pub stride : ℕ
+stride = 4
+
+-- document 01's h, the most runs that a line can have: ⌈w/2⌉ if the left byte is nonzero, else w
+unfoldable pub perLine : List ℕ → List ℕ → ℕ
+perLine shape structure = cond (leftOn shape structure) ((width shape + 1) / 2) (width shape)
+
+-- words needed: L + 1 + 4 × L × h
+unfoldable pub wordsNeeded : List ℕ → List ℕ → ℕ
+wordsNeeded shape structure = lines shape + 1 + stride * lines shape * perLine shape structure

@@ -1,0 +1,10 @@
+pub mod Answers
+pub mod BoolLaws
+pub mod CountLaws
+pub mod GatherLaws
+pub mod ChainLaws
+pub mod RepLaws
+pub mod GroupLaws
+pub mod VisitLaws
+pub mod NumberLaws
+pub mod QuotientLaws

@@ -1,0 +1,1 @@
+// Graphs of numbered nodes. There is no code here: specs/ has the definitions, proofs/ their laws.
