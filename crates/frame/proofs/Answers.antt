@@ -10,17 +10,17 @@ use Rattle.groups.specs.Numbers.{number}
 use Rattle.frame.specs.Shape.{size, width, leading, coords}
 use Rattle.frame.specs.Structure.{offset, backward, on, leftOn}
 use Rattle.frame.specs.ChainRule.{nonzero, sameList, any, leadsBy, step, edges, groupCount, label, range, labels, sizeOf, sizesOf}
-use Rattle.frame.specs.Runs.{goesOn, beginsRun, runs, Run, stretches, singles, lineRuns, lineOf, frameRuns, allRuns, lineStart, run}
+use Rattle.frame.specs.Runs.{goesOn, beginsRun, runs, Run, stretches, singles, lineRuns, lineOf, frameRuns, allRuns, runsBefore, frameRun}
 use Rattle.frame.specs.Touches.{reaches, used, hasNbr, nbrLine, touchesBy, touchesOf, touches, frameTouches}
-use Rattle.frame.specs.Kinds.{nz, nzℤ, nzF, flags, u8, u16, u32, largest}
+use Rattle.frame.specs.Kinds.{nz, nzℤ, nzF, flags, u8, u16, u32, largest, holds}
 use Rattle.frame.specs.Memory.{perLine, wordsNeeded}
 use Rattle.frame.specs.Causes.{badRank, hasZero, tooLarge, firstCause, openTests, openCause, feedCause, readCause, sizesCause, frameCause}
-use Rattle.frame.specs.Plain.{unless, kept, feeds, n, figures, cause, answer, written, next, plain, session}
+use Rattle.frame.specs.Plain.{unless, kept, feeds, groupsOf, figures, cause, answer, written, next, plain, session}
 use Rattle.frame.specs.Frames.{asked, nine, slips, refusals, frames}
 
 -- what the computation of a session opens
 computed : Unit {0}
-unfolding merge rep isRoot count groups gather pairs number size width leading coords offset backward on leftOn nonzero sameList any leadsBy step edges groupCount label range labels sizeOf sizesOf goesOn beginsRun runs nz nzℤ nzF flags largest perLine wordsNeeded badRank hasZero tooLarge firstCause openTests openCause feedCause readCause sizesCause unless kept feeds n figures cause answer written next plain session zipWith
+unfolding merge rep isRoot count groups gather pairs number size width leading coords offset backward on leftOn nonzero sameList any leadsBy step edges groupCount label range labels sizeOf sizesOf goesOn beginsRun runs nz nzℤ nzF flags largest holds perLine wordsNeeded badRank hasZero tooLarge firstCause openTests openCause feedCause readCause sizesCause unless kept feeds groupsOf figures cause answer written next plain session zipWith
 computed = tt
 
 -- ---- the fact: every session of the list is answered as it stands there
@@ -37,22 +37,22 @@ order =
     ∷ feedCause true 1 2 3 5
     ∷ feedCause true 2 2 3 5
     ∷ feedCause true 2 2 3 6
-    ∷ readCause false 8 9 256 (largest u8)
-    ∷ readCause true 8 9 256 (largest u8)
-    ∷ readCause true 9 9 256 (largest u8)
-    ∷ readCause true 9 9 255 (largest u8)
-    ∷ readCause true 9 9 65536 (largest u16)
-    ∷ readCause true 9 9 65535 (largest u16)
-    ∷ readCause true 9 9 4294967296 (largest u32)
-    ∷ readCause true 9 9 4294967295 (largest u32)
+    ∷ readCause false 8 9 (holds u8 256)
+    ∷ readCause true 8 9 (holds u8 256)
+    ∷ readCause true 9 9 (holds u8 256)
+    ∷ readCause true 9 9 (holds u8 255)
+    ∷ readCause true 9 9 (holds u16 65536)
+    ∷ readCause true 9 9 (holds u16 65535)
+    ∷ readCause true 9 9 (holds u32 4294967296)
+    ∷ readCause true 9 9 (holds u32 4294967295)
     ∷ sizesCause false 3 2
     ∷ sizesCause true 3 2
     ∷ sizesCause true 2 2
-    ∷ frameCause (3 ∷ 3 ∷ []) (replicate 9 1) 27 8 8 256 (largest u8)
-    ∷ frameCause (3 ∷ 3 ∷ []) (replicate 9 1) 28 8 8 256 (largest u8)
-    ∷ frameCause (3 ∷ 3 ∷ []) (replicate 9 1) 28 9 8 256 (largest u8)
-    ∷ frameCause (3 ∷ 3 ∷ []) (replicate 9 1) 28 9 9 256 (largest u8)
-    ∷ frameCause (3 ∷ 3 ∷ []) (replicate 9 1) 28 9 9 255 (largest u8)
+    ∷ frameCause (3 ∷ 3 ∷ []) (replicate 9 1) 27 8 8 (holds u8 256)
+    ∷ frameCause (3 ∷ 3 ∷ []) (replicate 9 1) 28 8 8 (holds u8 256)
+    ∷ frameCause (3 ∷ 3 ∷ []) (replicate 9 1) 28 9 8 (holds u8 256)
+    ∷ frameCause (3 ∷ 3 ∷ []) (replicate 9 1) 28 9 9 (holds u8 256)
+    ∷ frameCause (3 ∷ 3 ∷ []) (replicate 9 1) 28 9 9 (holds u8 255)
     ∷ []
 
 order-right : order ≡ 6 ∷ 7 ∷ 8 ∷ 0 ∷ 6 ∷ 9 ∷ 10 ∷ 0 ∷ 10 ∷ 0 ∷ 10 ∷ 0 ∷ 6 ∷ 9 ∷ 0 ∷ 5 ∷ 8 ∷ 9 ∷ 10 ∷ 0 ∷ []
@@ -139,5 +139,5 @@ worked =
     ∷ []
 
 touches-right : map work worked ≡ worked
-unfolding work worked stretches singles lineRuns lineOf frameRuns allRuns lineStart run reaches used hasNbr nbrLine touchesBy touchesOf touches computed
+unfolding work worked stretches singles lineRuns lineOf frameRuns allRuns runsBefore frameRun reaches used hasNbr nbrLine touchesBy touchesOf touches computed
 touches-right = refl

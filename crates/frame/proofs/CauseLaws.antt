@@ -6,7 +6,7 @@ use mathlib.Core.Bool.{Bool, true, false, not, cond, true≢false}
 use mathlib.Core.List.{List, [], _∷_}
 use Prim.Native.Nat.{ℕ, _*_, _≤_}
 use native.Mathlib.Omega.{arith}
-use borrow.Author.Tests.{eqb-true, eq-eqb, ltb-false, le-ltb, not-false}
+use borrow.Author.Tests.{eqb-true, eq-eqb, ltb-false, not-false}
 use lib.Dec.{eqb, ltb}
 use Rattle.frame.specs.Causes.{Test, when, firstCause, feedCause, readCause, sizesCause}
 
@@ -40,16 +40,16 @@ feed-accepted sound left k w cells e =
     let h = accepted (when (not sound) 6 ∷ when (ltb left k) 7 ∷ when (not (eqb cells (k * w))) 8 ∷ []) ((λ z. omega arith), ((λ z. omega arith), ((λ z. omega arith), tt))) .0 e in
     (not-false sound (h .0), ltb-false left k (h .1 .0), same-count cells (k * w) (h .1 .1 .0))
 
-pub read-accepted : (sound : Bool) (len places n most : ℕ) → readCause sound len places n most ≡ 0 → (sound ≡ true) × (len ≡ places) × (n ≤ most)
+pub read-accepted : (sound : Bool) (len places : ℕ) (room : Bool) → readCause sound len places room ≡ 0 → (sound ≡ true) × (len ≡ places) × (room ≡ true)
 unfolding readCause
-read-accepted sound len places n most e =
-    let h = accepted (when (not sound) 6 ∷ when (not (eqb len places)) 9 ∷ when (ltb most n) 10 ∷ []) ((λ z. omega arith), ((λ z. omega arith), ((λ z. omega arith), tt))) .0 e in
-    (not-false sound (h .0), same-count len places (h .1 .0), ltb-false most n (h .1 .1 .0))
+read-accepted sound len places room e =
+    let h = accepted (when (not sound) 6 ∷ when (not (eqb len places)) 9 ∷ when (not room) 10 ∷ []) ((λ z. omega arith), ((λ z. omega arith), ((λ z. omega arith), tt))) .0 e in
+    (not-false sound (h .0), same-count len places (h .1 .0), not-false room (h .1 .1 .0))
 
 -- a reading of exact length into a kind that holds n is accepted
-pub accepted-read : (len places n most : ℕ) → len ≡ places → n ≤ most → readCause true len places n most ≡ 0
+pub accepted-read : (len places : ℕ) (room : Bool) → len ≡ places → room ≡ true → readCause true len places room ≡ 0
 unfolding readCause firstCause
-accepted-read len places n most e h = rw (eq-eqb len places e, le-ltb most n h)
+accepted-read len places room e h = rw (eq-eqb len places e, h)
 
 pub sizes-accepted : (sound : Bool) (len n : ℕ) → sizesCause sound len n ≡ 0 → (sound ≡ true) × (len ≡ n)
 unfolding sizesCause
@@ -77,9 +77,9 @@ pub feed-six : (left k w cells : ℕ) → feedCause true left k w cells ≢ 6
 unfolding feedCause firstCause
 feed-six left k w cells = never 6 (when (ltb left k) 7 ∷ when (not (eqb cells (k * w))) 8 ∷ []) ((λ z. omega arith), ((λ z. omega arith), (λ z. omega arith)))
 
-pub read-six : (len places n most : ℕ) → readCause true len places n most ≢ 6
+pub read-six : (len places : ℕ) (room : Bool) → readCause true len places room ≢ 6
 unfolding readCause firstCause
-read-six len places n most = never 6 (when (not (eqb len places)) 9 ∷ when (ltb most n) 10 ∷ []) ((λ z. omega arith), ((λ z. omega arith), (λ z. omega arith)))
+read-six len places room = never 6 (when (not (eqb len places)) 9 ∷ when (not room) 10 ∷ []) ((λ z. omega arith), ((λ z. omega arith), (λ z. omega arith)))
 
 pub sizes-six : (len n : ℕ) → sizesCause true len n ≢ 6
 unfolding sizesCause firstCause

@@ -1,7 +1,7 @@
 -- The computed numbers are those of the chain rule, and no others are.
 -- Assumes nothing.
 use mathlib.Core.Path.{_≡_, refl, sym, ap, ap₂, _∙_, subst}
-use mathlib.Core.Logic.{_⊎_, inl, inr}
+use mathlib.Core.Logic.{_⊎_, inl, inr, _↔_}
 use mathlib.Core.Bool.{Bool, true, false, _||_, true≢false}
 use mathlib.Core.List.{List, [], _∷_, map, zipWith, List·Memᴰ}
 use Prim.Native.Nat.{ℕ, zero, suc, _+_, _^_, _≤_, _<_}
@@ -12,7 +12,6 @@ use lib.Dec.{eqb}
 use lib.ListN.{length, getD, length-map, List·getD-eq-default}
 use lib.Seq.{ext-getD}
 use Rattle.groups.specs.Groups.{Edge, Joined}
-use Rattle.groups.specs.Numbers.{Numbered}
 use Rattle.groups.proofs.BoolLaws.{and-true, and-left, and-right, and₃, or-right, or-cases}
 use Rattle.groups.proofs.GatherLaws.{pairs-from, from-pairs}
 use Rattle.groups.proofs.ChainLaws.{chain-map}
@@ -20,7 +19,7 @@ use Rattle.groups.proofs.RepLaws.{Ends, ends-all}
 use Rattle.groups.proofs.NumberLaws.{number-right, number-unique, count-unique, numbered-over, numbered-same}
 use Rattle.frame.specs.Shape.{size, coords}
 use Rattle.frame.specs.Structure.{offset, backward, Moved, on}
-use Rattle.frame.specs.ChainRule.{nonzero, Leads, Step, sameList, any, leadsBy, step, edges, groupCount, label, range, labels}
+use Rattle.frame.specs.ChainRule.{nonzero, Leads, Step, Group, Labelled, sameList, any, leadsBy, step, edges, groupCount, label, range, labels}
 
 -- ---- tests
 
@@ -126,12 +125,16 @@ module _ (shape structure : List ℕ) (cells : List Bool) where
   -- ---- the numbers
 
   -- the computed numbers are those of the chain rule
-  pub label-right : Numbered (nonzero cells) (Step shape structure cells) (size shape) (groupCount shape structure cells) (label shape structure cells)
+  pub label-right : Labelled shape structure cells (groupCount shape structure cells) (label shape structure cells)
   unfolding groupCount label
   label-right = numbered-over (λ a b h. chain-map joined-step h) (λ a b h. chain-map step-joined h) (number-right (nonzero cells) (edges shape structure cells) nonzero-ends (size shape))
 
+  -- one number exactly for one group
+  pub label-group : (p q : ℕ) → p < size shape → q < size shape → nonzero cells p ≡ true → nonzero cells q ≡ true → (label shape structure cells p ≡ label shape structure cells q) ↔ Group shape structure cells p q
+  label-group p q hp hq a b = let s = label-right .same p q hp hq a b in (λ e. (a, s .0 e), λ g. s .1 (g .1))
+
   -- whatever numbers the groups of the chain rule has these numbers, and this count
-  module _ (n : ℕ) (ν : ℕ → ℕ) (N : Numbered (nonzero cells) (Step shape structure cells) (size shape) n ν) where
+  module _ (n : ℕ) (ν : ℕ → ℕ) (N : Labelled shape structure cells n ν) where
     pub label-only : (p : ℕ) → p < size shape → ν p ≡ label shape structure cells p
     label-only p h =
         number-unique (nonzero cells) (edges shape structure cells) nonzero-ends (size shape) n (groupCount shape structure cells) ν (label shape structure cells)
@@ -172,10 +175,10 @@ module _ (shape structure : List ℕ) (cells : List Bool) where
   length-labels = length-map (range 0 (size shape)) (label shape structure cells) ∙ length-range 0 (size shape)
 
   -- they are numbered by the chain rule, and no other list of that length is
-  pub labels-right : Numbered (nonzero cells) (Step shape structure cells) (size shape) (groupCount shape structure cells) (λ p. getD (labels shape structure cells) p 0)
+  pub labels-right : Labelled shape structure cells (groupCount shape structure cells) (λ p. getD (labels shape structure cells) p 0)
   labels-right = numbered-same (label shape structure cells) _ (λ p h. sym (labels-at p h)) (label-right shape structure cells)
 
-  pub labels-only : (n : ℕ) (ns : List ℕ) → length ns ≡ size shape → Numbered (nonzero cells) (Step shape structure cells) (size shape) n (λ p. getD ns p 0) → ns ≡ labels shape structure cells
+  pub labels-only : (n : ℕ) (ns : List ℕ) → length ns ≡ size shape → Labelled shape structure cells n (λ p. getD ns p 0) → ns ≡ labels shape structure cells
   labels-only n ns l N =
       ext-getD 0 ns (labels shape structure cells) (l ∙ sym length-labels)
       (λ i h. label-only shape structure cells n _ N i (subst (λ (k : ℕ). i < k) l h) ∙ sym (labels-at i (subst (λ (k : ℕ). i < k) l h)))

@@ -18,7 +18,7 @@ use Rattle.groups.proofs.GatherLaws.{gather-snoc, gather-split}
 use Rattle.frame.specs.Shape.{size, width, lines}
 use Rattle.frame.specs.Structure.{leftOn}
 use Rattle.frame.specs.ChainRule.{nonzero}
-use Rattle.frame.specs.Runs.{goesOn, beginsRun, runs, runOf, Run, none, Holds, lineOf, frameRuns, allRuns, lineStart, run}
+use Rattle.frame.specs.Runs.{goesOn, beginsRun, runs, runOf, Run, none, Covers, lineOf, frameRuns, allRuns, runsBefore, frameRun}
 use Rattle.frame.specs.Memory.{perLine}
 use Rattle.frame.proofs.ShapeLaws.{factor-pos, Fits, fits-size}
 use Rattle.frame.proofs.ChainRuleLaws.{nonzero-below}
@@ -28,29 +28,29 @@ use Rattle.frame.proofs.RunLaws.{startOf, nonzero-under, run-below, sta
 module _ (shape structure : List ℕ) (cells : List Bool) where
   -- ---- numbers of runs
 
-  pub start-zero : lineStart shape structure cells 0 ≡ 0
-  unfolding lineStart allRuns gather
+  pub start-zero : runsBefore shape structure cells 0 ≡ 0
+  unfolding runsBefore allRuns gather
   start-zero = refl
 
-  pub start-suc : (ℓ : ℕ) → lineStart shape structure cells (suc ℓ) ≡ lineStart shape structure cells ℓ + length (frameRuns shape structure cells ℓ)
-  unfolding lineStart allRuns
+  pub start-suc : (ℓ : ℕ) → runsBefore shape structure cells (suc ℓ) ≡ runsBefore shape structure cells ℓ + length (frameRuns shape structure cells ℓ)
+  unfolding runsBefore allRuns
   start-suc ℓ =
       ap length (gather-snoc (frameRuns shape structure cells) 0 ℓ)
       ∙ length-append (gather (frameRuns shape structure cells) 0 ℓ) (frameRuns shape structure cells (0 + ℓ))
       ∙ ap (λ (k : ℕ). length (gather (frameRuns shape structure cells) 0 ℓ) + length (frameRuns shape structure cells k)) (zero-add ℓ)
 
-  start-more : (a k : ℕ) → lineStart shape structure cells a ≤ lineStart shape structure cells (a + k)
-  start-more a zero = let e : a + 0 ≡ a = omega arith in subst (λ (m : ℕ). lineStart shape structure cells a ≤ lineStart shape structure cells m) (sym e) (le-refl (lineStart shape structure cells a))
+  start-more : (a k : ℕ) → runsBefore shape structure cells a ≤ runsBefore shape structure cells (a + k)
+  start-more a zero = let e : a + 0 ≡ a = omega arith in subst (λ (m : ℕ). runsBefore shape structure cells a ≤ runsBefore shape structure cells m) (sym e) (le-refl (runsBefore shape structure cells a))
   start-more a (suc k) =
       let e : a + suc k ≡ suc (a + k) = omega arith in
-      subst (λ (m : ℕ). lineStart shape structure cells a ≤ lineStart shape structure cells m) (sym e) (omega (arith, start-more a k, start-suc (a + k)))
+      subst (λ (m : ℕ). runsBefore shape structure cells a ≤ runsBefore shape structure cells m) (sym e) (omega (arith, start-more a k, start-suc (a + k)))
 
-  pub start-le : (a b : ℕ) → a ≤ b → lineStart shape structure cells a ≤ lineStart shape structure cells b
-  start-le a b h = let e : a + (b - a) ≡ b = omega arith in subst (λ (m : ℕ). lineStart shape structure cells a ≤ lineStart shape structure cells m) e (start-more a (b - a))
+  pub start-le : (a b : ℕ) → a ≤ b → runsBefore shape structure cells a ≤ runsBefore shape structure cells b
+  start-le a b h = let e : a + (b - a) ≡ b = omega arith in subst (λ (m : ℕ). runsBefore shape structure cells a ≤ runsBefore shape structure cells m) e (start-more a (b - a))
 
-  -- run i of line ℓ has the number lineStart ℓ + i
-  pub run-at : (ℓ i : ℕ) → ℓ < lines shape → i < length (frameRuns shape structure cells ℓ) → run shape structure cells (lineStart shape structure cells ℓ + i) ≡ getD (frameRuns shape structure cells ℓ) i none
-  unfolding run lineStart allRuns
+  -- run i of line ℓ has the number runsBefore ℓ + i
+  pub run-at : (ℓ i : ℕ) → ℓ < lines shape → i < length (frameRuns shape structure cells ℓ) → frameRun shape structure cells (runsBefore shape structure cells ℓ + i) ≡ getD (frameRuns shape structure cells ℓ) i none
+  unfolding frameRun runsBefore allRuns
   run-at ℓ i h k =
       let e : lines shape ≡ ℓ + suc (lines shape - suc ℓ) = omega arith in
       ap (λ (m : ℕ). getD (gather R 0 m) (length (gather R 0 ℓ) + i) none) e
@@ -66,14 +66,14 @@ module _ (shape structure : List ℕ) (cells : List Bool) where
   pub record Located (n r : ℕ) : Type 0 where
     pub line : ℕ
     pub is-line : line < n
-    pub low : lineStart shape structure cells line ≤ r
-    pub high : r < lineStart shape structure cells (suc line)
+    pub low : runsBefore shape structure cells line ≤ r
+    pub high : r < runsBefore shape structure cells (suc line)
 
-  pub located : (n r : ℕ) → r < lineStart shape structure cells n → Located n r
+  pub located : (n r : ℕ) → r < runsBefore shape structure cells n → Located n r
   located zero r h = absurd (omega (arith, start-zero))
-  located (suc n) r h = go (ltb r (lineStart shape structure cells n)) refl (located n r)
+  located (suc n) r h = go (ltb r (runsBefore shape structure cells n)) refl (located n r)
     where
-      go : (b : Bool) → ltb r (lineStart shape structure cells n) ≡ b → (r < lineStart shape structure cells n → Located n r) → Located (suc n) r
+      go : (b : Bool) → ltb r (runsBefore shape structure cells n) ≡ b → (r < runsBefore shape structure cells n → Located n r) → Located (suc n) r
       go true t before = let k = before (ltb-true _ _ t) in record { line = k .line; is-line = omega (arith, k .is-line); low = k .low; high = k .high }
       go false t before = record { line = n; is-line = le-refl (suc n); low = ltb-false _ _ t; high = h }
 
@@ -116,7 +116,7 @@ module _ (shape structure : List ℕ) (cells : List Bool) where
       omega (arith, count-suc (ℓ * width shape + x), begun-step (leftOn shape structure) false (lineOf (width shape) cells ℓ) x)
 
   -- the runs before line ℓ are those that begin in a cell before it
-  pub count-start : (ℓ : ℕ) → count (beginsRun shape structure cells) (ℓ * width shape) ≡ lineStart shape structure cells ℓ
+  pub count-start : (ℓ : ℕ) → count (beginsRun shape structure cells) (ℓ * width shape) ≡ runsBefore shape structure cells ℓ
   unfolding frameRuns
   count-start zero = ap (count (beginsRun shape structure cells)) (zero-mul (width shape)) ∙ (unfold count in sym start-zero)
   count-start (suc ℓ) =
@@ -146,46 +146,46 @@ module _ (shape structure : List ℕ) (cells : List Bool) where
   unfolding frameRuns
   in-nonzero ℓ i x h = sym (nonzero-line ℓ x (column ℓ i x h)) ∙ line-in (leftOn shape structure) (lineOf (width shape) cells ℓ) i x h .0
 
-  in-count : (ℓ i x : ℕ) → In (frameRuns shape structure cells ℓ) i x → count (beginsRun shape structure cells) (suc (ℓ * width shape + x)) ≡ suc (lineStart shape structure cells ℓ + i)
+  in-count : (ℓ i x : ℕ) → In (frameRuns shape structure cells ℓ) i x → count (beginsRun shape structure cells) (suc (ℓ * width shape + x)) ≡ suc (runsBefore shape structure cells ℓ + i)
   unfolding frameRuns
   in-count ℓ i x h =
       let e : suc (ℓ * width shape + x) ≡ ℓ * width shape + suc x = omega arith in
       let c = ap (count (beginsRun shape structure cells)) e in
       omega (arith, count-line ℓ (suc x) (column ℓ i x h), count-start ℓ, line-in (leftOn shape structure) (lineOf (width shape) cells ℓ) i x h .1)
 
-  in-run : (ℓ i x : ℕ) → In (frameRuns shape structure cells ℓ) i x → runOf shape structure cells (ℓ * width shape + x) ≡ lineStart shape structure cells ℓ + i
+  in-run : (ℓ i x : ℕ) → In (frameRuns shape structure cells ℓ) i x → runOf shape structure cells (ℓ * width shape + x) ≡ runsBefore shape structure cells ℓ + i
   unfolding runOf
   in-run ℓ i x h = omega (arith, in-count ℓ i x h)
 
   -- ---- runs by number
 
   -- run r, of line ℓ, as its line lists it
-  module _ (ℓ r : ℕ) (h : ℓ < lines shape) (low : lineStart shape structure cells ℓ ≤ r) (high : r < lineStart shape structure cells (suc ℓ)) where
+  module _ (ℓ r : ℕ) (h : ℓ < lines shape) (low : runsBefore shape structure cells ℓ ≤ r) (high : r < runsBefore shape structure cells (suc ℓ)) where
     i : ℕ
-    i = r - lineStart shape structure cells ℓ
+    i = r - runsBefore shape structure cells ℓ
 
     is-i : i < length (frameRuns shape structure cells ℓ)
     unfolding i
     is-i = omega (arith, start-suc ℓ)
 
-    listed : run shape structure cells r ≡ getD (frameRuns shape structure cells ℓ) i none
+    listed : frameRun shape structure cells r ≡ getD (frameRuns shape structure cells ℓ) i none
     unfolding i
-    listed = let e : r ≡ lineStart shape structure cells ℓ + (r - lineStart shape structure cells ℓ) = omega arith in ap (run shape structure cells) e ∙ run-at ℓ i h is-i
+    listed = let e : r ≡ runsBefore shape structure cells ℓ + (r - runsBefore shape structure cells ℓ) = omega arith in ap (frameRun shape structure cells) e ∙ run-at ℓ i h is-i
 
     -- it holds a cell, and ends by the width
-    pub run-within : Within (width shape) (run shape structure cells r)
+    pub run-within : Within (width shape) (frameRun shape structure cells r)
     run-within = subst (Within (width shape)) (sym listed) (within ℓ i is-i)
 
     -- it holds nonzero cells alone, and they are of no other run
-    pub run-cells : (x : ℕ) → Holds (run shape structure cells r) x → (x < width shape) × (nonzero cells (ℓ * width shape + x) ≡ true) × (runOf shape structure cells (ℓ * width shape + x) ≡ r)
+    pub run-cells : (x : ℕ) → Covers (frameRun shape structure cells r) x → (x < width shape) × (nonzero cells (ℓ * width shape + x) ≡ true) × (runOf shape structure cells (ℓ * width shape + x) ≡ r)
     unfolding i
     run-cells x k =
-        let z : In (frameRuns shape structure cells ℓ) i x = subst (λ (u : Run). Holds u x) listed k in
+        let z : In (frameRuns shape structure cells ℓ) i x = subst (λ (u : Run). Covers u x) listed k in
         (column ℓ i x z, in-nonzero ℓ i x z, in-run ℓ i x z ∙ omega arith)
 
   -- of two runs of a line that hold one column, both are the same
-  pub run-one : (ℓ r s x : ℕ) → ℓ < lines shape → lineStart shape structure cells ℓ ≤ r → r < lineStart shape structure cells (suc ℓ) → lineStart shape structure cells ℓ ≤ s → s < lineStart shape structure cells (suc ℓ)
-      → Holds (run shape structure cells r) x → Holds (run shape structure cells s) x → r ≡ s
+  pub run-one : (ℓ r s x : ℕ) → ℓ < lines shape → runsBefore shape structure cells ℓ ≤ r → r < runsBefore shape structure cells (suc ℓ) → runsBefore shape structure cells ℓ ≤ s → s < runsBefore shape structure cells (suc ℓ)
+      → Covers (frameRun shape structure cells r) x → Covers (frameRun shape structure cells s) x → r ≡ s
   run-one ℓ r s x h lr hr ls hs a b = sym (run-cells ℓ r h lr hr x a .2) ∙ run-cells ℓ s h ls hs x b .2
 
   module _ (n : ℕ) (F : Fits shape n cells) where
@@ -197,9 +197,9 @@ module _ (shape structure : List ℕ) (cells : List Bool) where
 
     -- a nonzero cell is in its run, which is one of its line
     pub record InRun (p : ℕ) : Type 0 where
-      pub low : lineStart shape structure cells (p / width shape) ≤ runOf shape structure cells p
-      pub high : runOf shape structure cells p < lineStart shape structure cells (suc (p / width shape))
-      pub holds : Holds (run shape structure cells (runOf shape structure cells p)) (p % width shape)
+      pub low : runsBefore shape structure cells (p / width shape) ≤ runOf shape structure cells p
+      pub high : runOf shape structure cells p < runsBefore shape structure cells (suc (p / width shape))
+      pub covers : Covers (frameRun shape structure cells (runOf shape structure cells p)) (p % width shape)
 
     pub cell-run : (p : ℕ) → nonzero cells p ≡ true → InRun p
     unfolding frameRuns
@@ -210,22 +210,22 @@ module _ (shape structure : List ℕ) (cells : List Bool) where
         let b : nonzero cells (ℓ * width shape + x) ≡ true = rw e a in
         let k = line-held (leftOn shape structure) (lineOf (width shape) cells ℓ) x (nonzero-line ℓ x (mod-lt p (width-pos p a)) ∙ b) in
         let c : k .0 < length (frameRuns shape structure cells ℓ) = in-below (frameRuns shape structure cells ℓ) (k .0) x (k .1) in
-        let q : runOf shape structure cells p ≡ lineStart shape structure cells ℓ + k .0 = ap (runOf shape structure cells) (sym e) ∙ in-run ℓ (k .0) x (k .1) in
+        let q : runOf shape structure cells p ≡ runsBefore shape structure cells ℓ + k .0 = ap (runOf shape structure cells) (sym e) ∙ in-run ℓ (k .0) x (k .1) in
         let m : ℓ < lines shape = le-trans (line-below p a) (F .below) in
         record {
           low = omega arith;
           high = omega (arith, start-suc ℓ);
-          holds = subst (λ (u : Run). Holds u x) (sym (ap (run shape structure cells) q ∙ run-at ℓ (k .0) m c)) (k .1);
+          covers = subst (λ (u : Run). Covers u x) (sym (ap (frameRun shape structure cells) q ∙ run-at ℓ (k .0) m c)) (k .1);
         }
 
     -- there are as many runs as cells that begin one
-    pub runs-all : runs shape structure cells ≡ lineStart shape structure cells n
+    pub runs-all : runs shape structure cells ≡ runsBefore shape structure cells n
     runs-all = runs-counted shape structure cells (fits-size shape n cells F) ∙ ap (count (beginsRun shape structure cells)) (F .whole) ∙ count-start n
 
     -- runs are numbered in C order of the cells that begin them: run i of line ℓ begins with the cell at its start
-    pub first-cell : (ℓ i : ℕ) → i < length (frameRuns shape structure cells ℓ) → startOf shape structure cells (lineStart shape structure cells ℓ + i) ≡ ℓ * width shape + getD (frameRuns shape structure cells ℓ) i none .start
+    pub first-cell : (ℓ i : ℕ) → i < length (frameRuns shape structure cells ℓ) → startOf shape structure cells (runsBefore shape structure cells ℓ + i) ≡ ℓ * width shape + getD (frameRuns shape structure cells ℓ) i none .start
     unfolding frameRuns
-    first-cell ℓ i h = placed-only (beginsRun shape structure cells) (size shape) (lineStart shape structure cells ℓ + i) _ _ (start-right shape structure cells fits (lineStart shape structure cells ℓ + i) less) (go s refl (L && before false (lineOf (width shape) cells ℓ) s) refl)
+    first-cell ℓ i h = placed-only (beginsRun shape structure cells) (size shape) (runsBefore shape structure cells ℓ + i) _ _ (start-right shape structure cells fits (runsBefore shape structure cells ℓ + i) less) (go s refl (L && before false (lineOf (width shape) cells ℓ) s) refl)
       where
         fits : length cells ≤ size shape
         fits = fits-size shape n cells F
@@ -239,13 +239,13 @@ module _ (shape structure : List ℕ) (cells : List Bool) where
         holds : In (frameRuns shape structure cells ℓ) i s
         holds = (le-refl s, within ℓ i h .full)
 
-        less : lineStart shape structure cells ℓ + i < runs shape structure cells
+        less : runsBefore shape structure cells ℓ + i < runs shape structure cells
         less = subst (λ (k : ℕ). k < runs shape structure cells) (in-run ℓ i s holds) (run-below shape structure cells fits (ℓ * width shape + s) (in-nonzero ℓ i s holds))
 
         begins : (L && before false (lineOf (width shape) cells ℓ) s) ≡ false → beginsRun shape structure cells (ℓ * width shape + s) ≡ true
         begins e = begins-line ℓ s (column ℓ i s holds) ∙ rw e (and-true _ _ (line-in L (lineOf (width shape) cells ℓ) i s holds .0) refl)
 
-        go : (k : ℕ) → s ≡ k → (b : Bool) → (L && before false (lineOf (width shape) cells ℓ) s) ≡ b → Placed (beginsRun shape structure cells) (size shape) (lineStart shape structure cells ℓ + i) (ℓ * width shape + s)
+        go : (k : ℕ) → s ≡ k → (b : Bool) → (L && before false (lineOf (width shape) cells ℓ) s) ≡ b → Placed (beginsRun shape structure cells) (size shape) (runsBefore shape structure cells ℓ + i) (ℓ * width shape + s)
         go k q false e =
             record {
               under = nonzero-under shape structure cells fits (ℓ * width shape + s) (in-nonzero ℓ i s holds);

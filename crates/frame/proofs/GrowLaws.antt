@@ -13,7 +13,7 @@ use Rattle.groups.proofs.GatherLaws.{gather-split, gather-same}
 use Rattle.groups.proofs.VisitLaws.{visit-append, rep-over, joins-over}
 use Rattle.frame.specs.Shape.{width, leading, lines}
 use Rattle.frame.specs.Structure.{leftOn}
-use Rattle.frame.specs.Runs.{Run, none, lineRuns, lineOf, frameRuns, allRuns, lineStart, run}
+use Rattle.frame.specs.Runs.{Run, none, lineRuns, lineOf, frameRuns, allRuns, runsBefore, frameRun}
 use Rattle.frame.specs.Touches.{frameTouches}
 use Rattle.frame.proofs.ShapeLaws.{Fits}
 use Rattle.frame.proofs.FrameRunLaws.{start-le}
@@ -34,8 +34,8 @@ line-new w cells more n i e =
     ap (λ (k : ℕ). take w (drop k (cells ++ more))) a ∙ ap (take w) (drop-append-add cells more (i * w))
 
 -- a run of the first n lines is found among those alone
-run-first : (shape structure : List ℕ) (cells : List Bool) (n r : ℕ) → n ≤ lines shape → r < lineStart shape structure cells n → run shape structure cells r ≡ getD (allRuns shape structure cells n) r none
-unfolding run lineStart allRuns
+run-first : (shape structure : List ℕ) (cells : List Bool) (n r : ℕ) → n ≤ lines shape → r < runsBefore shape structure cells n → frameRun shape structure cells r ≡ getD (allRuns shape structure cells n) r none
+unfolding frameRun runsBefore allRuns
 run-first shape structure cells n r h l =
     let e : lines shape ≡ n + (lines shape - n) = omega arith in
     ap (λ (m : ℕ). getD (gather (frameRuns shape structure cells) 0 m) r none) e
@@ -57,11 +57,11 @@ module _ (shape structure : List ℕ) (cells more : List Bool) (n : ℕ) (F : Fi
   unfolding allRuns
   all-stay ℓ h = gather-same (frameRuns shape structure (cells ++ more)) (frameRuns shape structure cells) 0 ℓ (λ k l u. runs-stay k (omega arith))
 
-  pub starts-stay : (ℓ : ℕ) → ℓ ≤ n → lineStart shape structure (cells ++ more) ℓ ≡ lineStart shape structure cells ℓ
-  unfolding lineStart
+  pub starts-stay : (ℓ : ℕ) → ℓ ≤ n → runsBefore shape structure (cells ++ more) ℓ ≡ runsBefore shape structure cells ℓ
+  unfolding runsBefore
   starts-stay ℓ h = ap length (all-stay ℓ h)
 
-  pub run-stays : (r : ℕ) → r < lineStart shape structure cells n → run shape structure (cells ++ more) r ≡ run shape structure cells r
+  pub run-stays : (r : ℕ) → r < runsBefore shape structure cells n → frameRun shape structure (cells ++ more) r ≡ frameRun shape structure cells r
   run-stays r h =
       run-first shape structure (cells ++ more) n r (F .below) (rw (starts-stay n (le-refl n)) h)
       ∙ ap (λ (rs : List Run). getD rs r none) (all-stay n (le-refl n))
@@ -77,12 +77,12 @@ module _ (shape structure : List ℕ) (cells more : List Bool) (n : ℕ) (F : Fi
 
   pub touches-stay : frameTouches shape structure (cells ++ more) 0 n ≡ frameTouches shape structure cells 0 n
   touches-stay =
-      touches-same (leading shape) structure (lineStart shape structure (cells ++ more)) (lineStart shape structure cells) (run shape structure (cells ++ more)) (run shape structure cells) n starts-stay (start-le shape structure (cells ++ more))
+      touches-same (leading shape) structure (runsBefore shape structure (cells ++ more)) (runsBefore shape structure cells) (frameRun shape structure (cells ++ more)) (frameRun shape structure cells) n starts-stay (start-le shape structure (cells ++ more))
       (λ r h. run-stays r (rw (starts-stay n (le-refl n)) at h)) (F .below) 0 n (omega arith)
 
   pub touches-grow : (k : ℕ) → frameTouches shape structure (cells ++ more) 0 (n + k) ≡ frameTouches shape structure cells 0 n ++ frameTouches shape structure (cells ++ more) n k
   touches-grow k =
-      touches-split (leading shape) structure (lineStart shape structure (cells ++ more)) (run shape structure (cells ++ more)) 0 n k
+      touches-split (leading shape) structure (runsBefore shape structure (cells ++ more)) (frameRun shape structure (cells ++ more)) 0 n k
       ∙ ap₂ (λ (x : List Edge) (m : ℕ). x ++ frameTouches shape structure (cells ++ more) m k) touches-stay (zero-add n)
 
   -- ---- groups

@@ -7,11 +7,11 @@ use Prim.Native.Nat.{ℕ, zero, suc, _+_, _*_, _/_, _≤_, _<_}
 use native.Mathlib.Nat.{le-refl, not-suc-le-zero, zero-add}
 use native.Mathlib.Omega.{arith}
 use lib.ListN.{length, getD}
-use Rattle.frame.specs.Runs.{Run, none, Holds, stretches, singles, lineRuns}
+use Rattle.frame.specs.Runs.{Run, none, Covers, stretches, singles, lineRuns}
 
 -- run i of the list holds column x
 abbrev pub In : List Run → ℕ → ℕ → Type 0
-In rs i x = Holds (getD rs i none) x
+In rs i x = Covers (getD rs i none) x
 
 -- the runs of a line of w cells, from column lo on: each holds a cell, ends by w, and starts at least `gap` past the end of the one before
 abbrev pub Apart : ℕ → ℕ → ℕ → List Run → Type 0

@@ -19,7 +19,7 @@ use Rattle.groups.proofs.RepLaws.{linked-sym}
 use Rattle.frame.specs.Shape.{size, width, leading, lines, coords}
 use Rattle.frame.specs.Structure.{offset, Moved, on, leftOn}
 use Rattle.frame.specs.ChainRule.{nonzero, Leads, Step}
-use Rattle.frame.specs.Runs.{goesOn, beginsRun, runOf, lineStart, run}
+use Rattle.frame.specs.Runs.{goesOn, beginsRun, runOf, runsBefore, frameRun}
 use Rattle.frame.specs.Touches.{reaches, used, hasNbr, nbrLine, frameTouches}
 use Rattle.frame.proofs.ShapeLaws.{length-leading, length-coords, coords-inj, Fits, fits-size}
 use Rattle.frame.proofs.StructureLaws.{mid, twice-mid, next-mid, backward-mid, length-offset, offset-mid, left-on, moved-only, moved-still, line-moved}
@@ -101,7 +101,7 @@ module _ (shape structure : List ℕ) (cells : List Bool) (n : ℕ) (F : Fits sh
         let k = one-left shape p q (L .code) (F .ranked) (L .is-code) e hp hq (line-in p a) (line-in q b) (L .leads) in
         stays p q a b (left-on shape structure (F .ranked) ∙ ap (on structure) (sym e) ∙ L .is-on) (k .0) (k .1)
 
-    touch : L .code / 3 < mid (length (leading shape)) → Touch (leading shape) structure (lineStart shape structure cells) (run shape structure cells) 0 n (runOf shape structure cells p) (runOf shape structure cells q)
+    touch : L .code / 3 < mid (length (leading shape)) → Touch (leading shape) structure (runsBefore shape structure cells) (frameRun shape structure cells) 0 n (runOf shape structure cells p) (runOf shape structure cells q)
     touch h =
         record {
           line = p / width shape;
@@ -113,11 +113,11 @@ module _ (shape structure : List ℕ) (cells : List Bool) (n : ℕ) (F : Fits sh
           has-nbr = found .0;
           r-low = P .low;
           r-high = P .high;
-          s-low = subst (λ (m : ℕ). lineStart shape structure cells m ≤ runOf shape structure cells q) (sym (found .1)) (Q .low);
-          s-high = subst (λ (m : ℕ). runOf shape structure cells q < lineStart shape structure cells (suc m)) (sym (found .1)) (Q .high);
+          s-low = subst (λ (m : ℕ). runsBefore shape structure cells m ≤ runOf shape structure cells q) (sym (found .1)) (Q .low);
+          s-high = subst (λ (m : ℕ). runOf shape structure cells q < runsBefore shape structure cells (suc m)) (sym (found .1)) (Q .high);
           reached =
-              rw zeroth at (meeting-reaches (λ t. on structure (3 * k + t)) (run shape structure cells (runOf shape structure cells q)) (run shape structure cells (runOf shape structure cells p))
-              (record { t = L .code % 3; is-t = omega arith; is-on = byte; x = p % width shape; in-c = P .holds; y = q % width shape; in-m = Q .holds; along = move .1 }));
+              rw zeroth at (meeting-reaches (λ t. on structure (3 * k + t)) (frameRun shape structure cells (runOf shape structure cells q)) (frameRun shape structure cells (runOf shape structure cells p))
+              (record { t = L .code % 3; is-t = omega arith; is-on = byte; x = p % width shape; in-c = P .covers; y = q % width shape; in-m = Q .covers; along = move .1 }));
         }
       where
         ds : List ℕ
@@ -148,12 +148,12 @@ module _ (shape structure : List ℕ) (cells : List Bool) (n : ℕ) (F : Fits sh
     leads-linked = go (ltb (L .code / 3) (mid (length (leading shape)))) refl
       where
         go : (t : Bool) → ltb (L .code / 3) (mid (length (leading shape))) ≡ t → Linked (frameTouches shape structure cells 0 n) (runOf shape structure cells p) (runOf shape structure cells q)
-        go true t = more (inl (from-touches (leading shape) structure (lineStart shape structure cells) (run shape structure cells) 0 n _ _ (touch (ltb-true _ _ t)))) one
+        go true t = more (inl (from-touches (leading shape) structure (runsBefore shape structure cells) (frameRun shape structure cells) 0 n _ _ (touch (ltb-true _ _ t)))) one
         go false t = chain-refl (same-run (let k = ltb-false (L .code / 3) (mid (length (leading shape))) t in omega (arith, next-mid (length (leading shape)), low)))
 
   -- ---- a touch is a step
 
-  touch-step : (r s : ℕ) → Touch (leading shape) structure (lineStart shape structure cells) (run shape structure cells) 0 n r s → RunStep shape structure cells r s
+  touch-step : (r s : ℕ) → Touch (leading shape) structure (runsBefore shape structure cells) (frameRun shape structure cells) 0 n r s → RunStep shape structure cells r s
   touch-step r s T = record { p = p; q = q; steps = record { here = P .1; there = Q .1; way = inl leads }; of-r = P .2; of-s = Q .2 }
     where
       ds : List ℕ
@@ -177,11 +177,11 @@ module _ (shape structure : List ℕ) (cells : List Bool) (n : ℕ) (F : Fits sh
       zeroth : 3 * k ≡ 3 * k + 0
       zeroth = omega arith
 
-      M : Meeting (λ t. on structure (3 * k + t)) (run shape structure cells s) (run shape structure cells r)
+      M : Meeting (λ t. on structure (3 * k + t)) (frameRun shape structure cells s) (frameRun shape structure cells r)
       M =
-          reaches-meeting (λ t. on structure (3 * k + t)) (run shape structure cells s) (run shape structure cells r)
+          reaches-meeting (λ t. on structure (3 * k + t)) (frameRun shape structure cells s) (frameRun shape structure cells r)
           (run-within shape structure cells m s (moves .0) (T .s-low) (T .s-high) .full) (run-within shape structure cells ℓ r hl (T .r-low) (T .r-high) .full)
-          (subst (λ (z : ℕ). reaches (on structure z) (on structure (3 * k + 1)) (on structure (3 * k + 2)) (run shape structure cells s) (run shape structure cells r) ≡ true) zeroth (T .reached))
+          (subst (λ (z : ℕ). reaches (on structure z) (on structure (3 * k + 1)) (on structure (3 * k + 2)) (frameRun shape structure cells s) (frameRun shape structure cells r) ≡ true) zeroth (T .reached))
 
       p : ℕ
       p = ℓ * width shape + M .x
@@ -233,8 +233,8 @@ module _ (shape structure : List ℕ) (cells : List Bool) (n : ℕ) (F : Fits sh
       turn x y t = record { p = t .q; q = t .p; steps = step-flip shape structure cells (t .p) (t .q) (t .steps); of-r = t .of-s; of-s = t .of-r }
 
       go : (x y : ℕ) → Joined (frameTouches shape structure cells 0 n) x y → RunStep shape structure cells x y
-      go x y (inl m) = touch-step x y (touches-from (leading shape) structure (lineStart shape structure cells) (run shape structure cells) 0 n x y m)
-      go x y (inr m) = turn y x (touch-step y x (touches-from (leading shape) structure (lineStart shape structure cells) (run shape structure cells) 0 n y x m))
+      go x y (inl m) = touch-step x y (touches-from (leading shape) structure (runsBefore shape structure cells) (frameRun shape structure cells) 0 n x y m)
+      go x y (inr m) = turn y x (touch-step y x (touches-from (leading shape) structure (runsBefore shape structure cells) (frameRun shape structure cells) 0 n y x m))
 
   step-linked : (p q : ℕ) → Step shape structure cells p q → Linked (frameTouches shape structure cells 0 n) (runOf shape structure cells p) (runOf shape structure cells q)
   step-linked p q s = go (s .way)

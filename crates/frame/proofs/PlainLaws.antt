@@ -3,17 +3,17 @@
 use mathlib.Core.Path.{_≡_, refl, sym, ap₂, _∙_}
 use mathlib.Core.Logic.{_≢_}
 use mathlib.Core.Bool.{Bool, true, false, cond}
-use mathlib.Core.List.{List, [], _∷_, _++_, append-assoc}
+use mathlib.Core.List.{List, [], _∷_, _++_, append-assoc, append-nil}
 use Prim.Native.Nat.{ℕ, _+_, _-_, _*_, _≤_, _<_}
-use native.Mathlib.Nat.{add-mul, add-assoc, zero-mul}
+use native.Mathlib.Nat.{add-mul, add-assoc, add-zero, zero-mul}
 use native.Mathlib.Omega.{arith}
 use borrow.Author.Tests.{eqb-true}
 use lib.Dec.{eqb}
 use lib.ListN.{length, length-append}
 use Rattle.frame.specs.Shape.{size, width, lines}
 use Rattle.frame.specs.Runs.{runs}
-use Rattle.frame.specs.Kinds.{flags, largest}
-use Rattle.frame.specs.Plain.{Call, feed, read, sizes, State, opened, feeds, n, figures, cause, next, after}
+use Rattle.frame.specs.Kinds.{flags, holds}
+use Rattle.frame.specs.Plain.{Call, feed, read, sizes, State, opened, feeds, groupsOf, figures, cause, next, after}
 use Rattle.frame.proofs.ShapeLaws.{Fits}
 use Rattle.frame.proofs.RunLaws.{count-runs}
 use Rattle.frame.proofs.CauseLaws.{feed-accepted, feed-six, read-six, sizes-six}
@@ -54,8 +54,8 @@ module _ (shape : List ℕ) where
   -- ---- figures
 
   -- runs = n + joins: the subtraction in the definition hides nothing
-  pub balanced : (p : State) → figures shape p .runs ≡ n shape p + figures shape p .joins
-  unfolding figures n
+  pub balanced : (p : State) → figures shape p .runs ≡ groupsOf shape p + figures shape p .joins
+  unfolding figures groupsOf
   balanced p = omega (arith, count-runs shape (p .structure) (p .cells))
 
   -- ---- causes
@@ -63,8 +63,13 @@ module _ (shape : List ℕ) where
   pub six-never : (p : State) (c : Call) → cause shape p c ≢ 6
   unfolding cause
   six-never p (feed k cells) = feed-six (lines shape - p .fed) k (width shape) (length (flags cells))
-  six-never p (read kind out) = read-six (length out) (size shape) (n shape p) (largest kind)
-  six-never p (sizes out) = sizes-six (length out) (n shape p)
+  six-never p (read kind out) = read-six (length out) (size shape) (holds kind (groupsOf shape p))
+  six-never p (sizes out) = sizes-six (length out) (groupsOf shape p)
+
+-- a feed of no lines changes nothing
+pub feeds-none : (p : State) → feeds p 0 [] ≡ p
+unfolding feeds
+feeds-none p = ap₂ (λ (m : ℕ) (l : List Bool). record { structure = p .structure; fed = m; cells = l }) (add-zero (p .fed)) (append-nil (p .cells))
 
 -- two feeds leave what one feed of all their lines does
 pub feeds-feeds : (p : State) (k j : ℕ) (xs ys : List Bool) → feeds (feeds p k xs) j ys ≡ feeds p (k + j) (xs ++ ys)

@@ -8,7 +8,7 @@ use native.Mathlib.Omega.{arith}
 use borrow.Author.Tests.{ltb-true, lt-ltb}
 use lib.Dec.{ltb}
 use Rattle.groups.proofs.BoolLaws.{and-true, and-left, and-right, or-left, or-right, or-cases}
-use Rattle.frame.specs.Runs.{Run, Holds}
+use Rattle.frame.specs.Runs.{Run, Covers}
 use Rattle.frame.specs.Touches.{overlap, reachPrev, reachAdj, reachNext, reaches}
 
 pub over : (s e cs ce : ℕ) → s < ce → cs < e → overlap s e cs ce ≡ true
@@ -23,9 +23,9 @@ pub record Meeting (f : ℕ → Bool) (m c : Run) : Type 0 where
   pub is-t : t < 3
   pub is-on : f t ≡ true
   pub x : ℕ
-  pub in-c : Holds c x
+  pub in-c : Covers c x
   pub y : ℕ
-  pub in-m : Holds m y
+  pub in-m : Covers m y
   pub along : x + t ≡ suc y
 
 pub meeting-reaches : (f : ℕ → Bool) (m c : Run) → Meeting f m c → reaches (f 0) (f 1) (f 2) m c ≡ true

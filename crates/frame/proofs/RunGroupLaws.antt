@@ -13,7 +13,7 @@ use Rattle.groups.proofs.RepLaws.{Ends}
 use Rattle.groups.proofs.VisitLaws.{visit-joined, joined-visit, ends-visit}
 use Rattle.frame.specs.Shape.{size, leading}
 use Rattle.frame.specs.ChainRule.{nonzero, groupCount, label}
-use Rattle.frame.specs.Runs.{runs, runOf, lineStart, run}
+use Rattle.frame.specs.Runs.{runs, runOf, runsBefore, frameRun}
 use Rattle.frame.specs.Touches.{frameTouches}
 use Rattle.frame.proofs.ShapeLaws.{Fits, fits-size}
 use Rattle.frame.proofs.RunLaws.{runs-count, runs-label, runs-joins}
@@ -25,8 +25,8 @@ module _ (shape structure : List ℕ) (cells : List Bool) (n : ℕ) (F : Fits sh
   -- both runs of every touch are runs of the fed lines
   pub touches-runs : Ends (λ r. r < runs shape structure cells) (frameTouches shape structure cells 0 n)
   touches-runs =
-      subst (λ (k : ℕ). Ends (λ r. r < k) (frameTouches shape structure cells 0 n)) (ap (lineStart shape structure cells) (zero-add n) ∙ sym (runs-all shape structure cells n F))
-      (touches-below (leading shape) structure (lineStart shape structure cells) (run shape structure cells) (start-le shape structure cells) 0 n (omega (arith, F .below)))
+      subst (λ (k : ℕ). Ends (λ r. r < k) (frameTouches shape structure cells 0 n)) (ap (runsBefore shape structure cells) (zero-add n) ∙ sym (runs-all shape structure cells n F))
+      (touches-below (leading shape) structure (runsBefore shape structure cells) (frameRun shape structure cells) (start-le shape structure cells) 0 n (omega (arith, F .below)))
 
   -- for every list that joins what the touches join, in any order and with repeats
   module _ (es : List Edge) (into : (a b : ℕ) → Joined es a b → Joined (frameTouches shape structure cells 0 n) a b) (onto : (a b : ℕ) → Joined (frameTouches shape structure cells 0 n) a b → Joined es a b) where

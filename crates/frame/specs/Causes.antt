@@ -55,15 +55,15 @@ openCause shape structure memory = firstCause (openTests shape structure memory)
 unfoldable pub feedCause : Bool → ℕ → ℕ → ℕ → ℕ → ℕ
 feedCause sound left k w cells = firstCause (when (not sound) 6 ∷ when (ltb left k) 7 ∷ when (not (eqb cells (k * w))) 8 ∷ [])
 
--- reading: 6, 9, 10. Whether the record is sound, the output's length, L × w, n, and the kind's largest number
-unfoldable pub readCause : Bool → ℕ → ℕ → ℕ → ℕ → ℕ
-readCause sound length size n largest = firstCause (when (not sound) 6 ∷ when (not (eqb length size)) 9 ∷ when (ltb largest n) 10 ∷ [])
+-- reading: 6, 9, 10. Whether the record is sound, the output's length, L × w, and whether the kind holds n
+unfoldable pub readCause : Bool → ℕ → ℕ → Bool → ℕ
+readCause sound length size holds = firstCause (when (not sound) 6 ∷ when (not (eqb length size)) 9 ∷ when (not holds) 10 ∷ [])
 
 -- sizes: 6, 9. Whether the record is sound, the slice's length, and n
 unfoldable pub sizesCause : Bool → ℕ → ℕ → ℕ
 sizesCause sound length n = firstCause (when (not sound) 6 ∷ when (not (eqb length n)) 9 ∷ [])
 
--- whole frame: 1 to 5, 8, 9, 10. The counts of words, of cells and of output places, n, and the kind's largest number
-unfoldable pub frameCause : List ℕ → List ℕ → ℕ → ℕ → ℕ → ℕ → ℕ → ℕ
-frameCause shape structure memory cells out n largest =
-    firstCause (openTests shape structure memory ++ when (not (eqb cells (size shape))) 8 ∷ when (not (eqb out (size shape))) 9 ∷ when (ltb largest n) 10 ∷ [])
+-- whole frame: 1 to 5, 8, 9, 10. The counts of words, of cells and of output places, and whether the kind holds n
+unfoldable pub frameCause : List ℕ → List ℕ → ℕ → ℕ → ℕ → Bool → ℕ
+frameCause shape structure memory cells out holds =
+    firstCause (openTests shape structure memory ++ when (not (eqb cells (size shape))) 8 ∷ when (not (eqb out (size shape))) 9 ∷ when (not holds) 10 ∷ [])

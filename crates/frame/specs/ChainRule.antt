@@ -7,8 +7,8 @@ use mathlib.Core.List.{List, [], _∷_, map, zipWith}
 use Prim.Native.Nat.{ℕ, zero, suc, _+_, _^_, _<_}
 use lib.Dec.{eqb}
 use lib.ListN.{length, getD}
-use Rattle.groups.specs.Groups.{Edge, count, groups, pairs}
-use Rattle.groups.specs.Numbers.{number}
+use Rattle.groups.specs.Groups.{Chain, Edge, count, groups, pairs}
+use Rattle.groups.specs.Numbers.{Numbered, number}
 use Rattle.frame.specs.Shape.{size, coords}
 use Rattle.frame.specs.Structure.{offset, backward, Moved, on}
 
@@ -24,14 +24,22 @@ pub record Leads (shape structure : List ℕ) (p q : ℕ) : Type 0 where
   pub is-on : on structure code ≡ true
   pub leads : Moved (coords shape p) (offset (length shape) code) (coords shape q)
 
--- document 01's step: between two fed nonzero cells whose coordinates differ by such an offset, either way.
--- A chain is `Chain (Step shape structure cells)`, and a group is a fed nonzero cell with all that chains join to it
+-- document 01's step: between two fed nonzero cells whose coordinates differ by such an offset, either way
 pub record Step (shape structure : List ℕ) (cells : List Bool) (p q : ℕ) : Type 0 where
   pub here : nonzero cells p ≡ true
   pub there : nonzero cells q ≡ true
   pub way : Leads shape structure p q ⊎ Leads shape structure q p
 
--- ---- computed
+-- document 01's group: a fed nonzero cell p with all that chains join to it. q is of p's group
+abbrev pub Group : List ℕ → List ℕ → List Bool → ℕ → ℕ → Type 0
+Group shape structure cells p q = (nonzero cells p ≡ true) × Chain (Step shape structure cells) p q
+
+-- ν gives every cell its number, and n is the count of groups: 0 to zero and unfed cells, one number to two fed nonzero cells
+-- exactly when a chain joins them, 1 to n by the groups' first cells in C order
+abbrev pub Labelled : List ℕ → List ℕ → List Bool → ℕ → (ℕ → ℕ) → Type 0
+Labelled shape structure cells n ν = Numbered (nonzero cells) (Step shape structure cells) (size shape) n ν
+
+-- ---- computed: `label` is so, with `groupCount`, and no other numbers are (proofs/ChainRuleLaws.antt)
 
 unfoldable pub sameList : List ℕ → List ℕ → Bool
 sameList [] [] = true

@@ -4,7 +4,7 @@ use mathlib.Core.Bool.{true, false}
 use mathlib.Core.List.{List, [], _∷_, _++_}
 use Prim.Native.Nat.{ℕ, zero, suc, _-_, _/_, _%_}
 use lib.IntN.{pos, negsuc}
-use lib.Ieee.{nan, fin}
+use lib.Ieee.{nan, inf, fin}
 use lib.ListN.{replicate}
 use Rattle.frame.specs.Shape.{size, leading, lines}
 use Rattle.frame.specs.Runs.{runs}
@@ -110,7 +110,7 @@ nine =
       shape = 4 ∷ [];
       structure = d 3 111;
       memory = 10;
-      calls = feed 1 (f32s (fin true 0 (negsuc 148) ∷ nan ∷ fin false 0 (negsuc 148) ∷ fin false 1 (pos 0) ∷ [])) ∷ read u8 (o 4) ∷ [];
+      calls = feed 1 (f32s (fin true 0 (pos 0) ∷ nan ∷ fin false 0 (pos 0) ∷ fin false 1 (pos 0) ∷ [])) ∷ read u8 (o 4) ∷ [];
       answers = fedAll 1 2 0 ∷ got u8 2 2 0 (d 4 102) ∷ [];
     }
     -- 7
@@ -136,11 +136,14 @@ slips =
     ∷ whole (2 ∷ 2 ∷ 1 ∷ []) (alone 10) (d 4 110) 2 2 0 (d 4 120)
     -- offset -1,0,0: only the line before stitched, though the neighbour is two lines back
     ∷ whole (2 ∷ 2 ∷ 1 ∷ []) (alone 4) (d 4 1010) 1 2 1 (d 4 1010)
+    -- offset +1,-1 taken as backward
+    ∷ whole (2 ∷ 2 ∷ []) (d 9 100) (d 4 110) 2 2 0 (d 4 120)
     -- a neighbour run dropped once it has been met
     ∷ whole (2 ∷ 4 ∷ []) (d 9 100100000) (d 8 10100111) 1 3 2 (d 8 10100111)
     ∷ []
 
--- ---- every cause that an opening, a feed, a reading or a size call can have, before those that come later in its order
+-- ---- refusals: each cause of an opening before those that come later, at its limit and beside it; then feeds, readings and size
+-- calls with what each refusal leaves. 6 never comes here, and 10 needs 256 groups: proofs/Answers.antt has both by the causes alone
 
 unfoldable pub refusals : List Frame
 unfolding C opening digitsOf
@@ -149,45 +152,52 @@ refusals =
     ∷ opening (0 ∷ 1 ∷ 1 ∷ 1 ∷ 1 ∷ []) [] 0 (no 1 ∷ [])
     ∷ opening (0 ∷ 3 ∷ []) (d 3 111) 0 (no 2 ∷ [])
     ∷ opening (4294967293 ∷ 0 ∷ 3 ∷ []) (replicate 27 1) 0 (no 3 ∷ [])
+    ∷ opening (0 ∷ 2147483647 ∷ []) C 0 (no 3 ∷ [])
     ∷ opening (2147483647 ∷ []) (d 3 111) 0 (no 4 ∷ [])
     ∷ opening (2147483646 ∷ []) (d 3 111) 0 (no 5 ∷ [])
     ∷ opening (4294967293 ∷ 0 ∷ []) C 0 (no 4 ∷ [])
     ∷ opening (4294967292 ∷ 0 ∷ []) C 0 (no 5 ∷ [])
     ∷ opening (4294967293 ∷ 1 ∷ []) C 0 (no 4 ∷ [])
     ∷ opening (4294967292 ∷ 1 ∷ []) C 0 (no 5 ∷ [])
-    ∷ opening (2147483647 ∷ 2 ∷ []) C 0 (no 4 ∷ [])
+    ∷ opening (9241 ∷ 464773 ∷ []) C 0 (no 4 ∷ [])
     ∷ opening (2147483646 ∷ 2 ∷ []) C 0 (no 5 ∷ [])
     ∷ record {
-      shape = 2 ∷ 2 ∷ [];
+      shape = 3 ∷ 2 ∷ [];
       structure = C;
-      memory = 11;
+      memory = 16;
       calls =
-          feed 3 (u8s (d 1 1))
+          feed 4 (u8s (d 1 1))
           ∷ feed 1 (u8s (d 1 1))
           ∷ feed 1 (u16s (d 2 11))
-          ∷ read u16 (o 3)
+          ∷ read u16 (o 5)
+          ∷ read u16 (o 7)
           ∷ sizes (o 2)
           ∷ sizes (o 1)
           ∷ feed 0 (u8s (d 1 1))
           ∷ feed 1 (i16s (pos 0 ∷ negsuc 0 ∷ []))
-          ∷ feed 1 (u8s (d 2 11))
+          ∷ feed 2 (u8s (d 4 1111))
           ∷ feed 0 (u8s [])
-          ∷ sizes (o 1)
-          ∷ read u16 (o 4)
+          ∷ feed 1 (f32s (inf true ∷ fin true 0 (pos 0) ∷ []))
+          ∷ feed 1 (u8s (d 2 11))
+          ∷ sizes (o 2)
+          ∷ read u16 (o 6)
           ∷ [];
       answers =
           no 7
           ∷ no 8
           ∷ fedAll 1 1 0
-          ∷ noNumbers u16 9 (o 3)
+          ∷ noNumbers u16 9 (o 5)
+          ∷ noNumbers u16 9 (o 7)
           ∷ noCounts 9 (o 2)
           ∷ sized 1 1 0 (d 1 2)
           ∷ no 8
           ∷ fedAll 2 2 1
           ∷ no 7
           ∷ fedAll 2 2 1
-          ∷ sized 1 2 1 (d 1 3)
-          ∷ got u16 1 2 1 (d 4 1101)
+          ∷ fedAll 3 3 1
+          ∷ no 7
+          ∷ sized 2 3 1 (d 2 31)
+          ∷ got u16 2 3 1 (d 6 110120)
           ∷ [];
     }
     ∷ []

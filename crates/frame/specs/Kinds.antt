@@ -3,7 +3,7 @@
 use mathlib.Core.Bool.{Bool, true, not}
 use mathlib.Core.List.{List, map}
 use Prim.Native.Nat.{ℕ}
-use lib.Dec.{eqb}
+use lib.Dec.{eqb, leb}
 use lib.IntN.{ℤ, pos, negsuc}
 use lib.Ieee.{Float, nan, inf, fin}
 
@@ -39,11 +39,15 @@ flags (f32s xs) = map nzF xs
 pub data Number : Type 0 where
   u8 u16 u32 : Number
 
--- the largest number of the kind, as the Rust's MAXV. A kind holds n if n isn't above it
+-- the largest number of the kind, as the Rust's MAXV
 unfoldable pub largest : Number → ℕ
 largest u8 = 255
 largest u16 = 65535
 largest u32 = 4294967295
+
+-- document 01: a kind holds n if n isn't above its largest number
+unfoldable pub holds : Number → ℕ → Bool
+holds kind n = leb n (largest kind)
 
 -- what a place of an output of that kind holds, and what is written there for the number n
 abbrev pub Value : Number → Type 0

@@ -8,7 +8,7 @@ use lib.ListN.{length}
 use Rattle.frame.specs.Shape.{size, width, lines}
 use Rattle.frame.specs.ChainRule.{groupCount, labels, sizesOf}
 use Rattle.frame.specs.Runs.{runs}
-use Rattle.frame.specs.Kinds.{Cells, flags, Number, largest, Value, write}
+use Rattle.frame.specs.Kinds.{Cells, flags, Number, holds, Value, write}
 use Rattle.frame.specs.Causes.{openCause, feedCause, readCause, sizesCause}
 
 -- ---- calls: the arguments except record and memory
@@ -72,23 +72,23 @@ feeds p k cells = record { structure = p .structure; fed = p .fed + k; cells = p
 
 module _ (shape : List ℕ) where
   -- n, and the figures: runs, and joins as runs - n
-  unfoldable pub n : State → ℕ
-  n p = groupCount shape (p .structure) (p .cells)
+  unfoldable pub groupsOf : State → ℕ
+  groupsOf p = groupCount shape (p .structure) (p .cells)
 
   unfoldable pub figures : State → Figures
-  figures p = record { runs = runs shape (p .structure) (p .cells); joins = runs shape (p .structure) (p .cells) - n p }
+  figures p = record { runs = runs shape (p .structure) (p .cells); joins = runs shape (p .structure) (p .cells) - groupsOf p }
 
   -- each call's cause: 6 never comes
   unfoldable pub cause : State → Call → ℕ
   cause p (feed k cells) = feedCause true (lines shape - p .fed) k (width shape) (length (flags cells))
-  cause p (read kind out) = readCause true (length out) (size shape) (n p) (largest kind)
-  cause p (sizes out) = sizesCause true (length out) (n p)
+  cause p (read kind out) = readCause true (length out) (size shape) (holds kind (groupsOf p))
+  cause p (sizes out) = sizesCause true (length out) (groupsOf p)
 
   -- what is answered, and written, where there is no cause
   unfoldable pub answer : State → Call → Answer
   answer p (feed k cells) = fed (p .fed + k) (figures (feeds p k (flags cells)))
-  answer p (read kind out) = counted (n p) (figures p)
-  answer p (sizes out) = counted (n p) (figures p)
+  answer p (read kind out) = counted (groupsOf p) (figures p)
+  answer p (sizes out) = counted (groupsOf p) (figures p)
 
   unfoldable pub written : State → Call → Written
   written p (feed k cells) = nothing

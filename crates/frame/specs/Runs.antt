@@ -39,9 +39,9 @@ pub record Run : Type 0 where
 abbrev pub none : Run
 none = record { start = 0; end = 0 }
 
--- the run holds that column
-abbrev pub Holds : Run → ℕ → Type 0
-Holds r x = (r .start ≤ x) × (x < r .end)
+-- the run covers that column
+abbrev pub Covers : Run → ℕ → Type 0
+Covers r x = (r .start ≤ x) × (x < r .end)
 
 -- the maximal stretches from column x on, where l has the flags from x on. The first argument says whether column x - 1 is in
 -- a run, and s is then that run's start
@@ -76,8 +76,8 @@ module _ (shape structure : List ℕ) (cells : List Bool) where
   unfoldable pub allRuns : ℕ → List Run
   allRuns n = gather frameRuns 0 n
 
-  unfoldable pub lineStart : ℕ → ℕ
-  lineStart ℓ = length (allRuns ℓ)
+  unfoldable pub runsBefore : ℕ → ℕ
+  runsBefore ℓ = length (allRuns ℓ)
 
-  unfoldable pub run : ℕ → Run
-  run r = getD (allRuns (lines shape)) r none
+  unfoldable pub frameRun : ℕ → Run
+  frameRun r = getD (allRuns (lines shape)) r none

@@ -8,11 +8,11 @@ use lib.ListN.{length}
 use Rattle.groups.specs.Groups.{Edge, gather, pairs}
 use Rattle.frame.specs.Shape.{size, leading}
 use Rattle.frame.specs.Structure.{offset, backward, on}
-use Rattle.frame.specs.Runs.{Run, lineStart, run}
+use Rattle.frame.specs.Runs.{Run, runsBefore, frameRun}
 
 -- ---- reach
 
--- two stretches of columns, [s, e) and [cs, ce), share a column
+-- two stretches of columns that are not empty, [s, e) and [cs, ce), share a column
 abbrev pub overlap : ℕ → ℕ → ℕ → ℕ → Bool
 overlap s e cs ce = ltb s ce && ltb cs e
 
@@ -74,4 +74,4 @@ module _ (ds structure : List ℕ) (S : ℕ → ℕ) (R : ℕ → Run) where
 
 -- the touches of a frame's lines, n of them from line a on
 abbrev pub frameTouches : List ℕ → List ℕ → List Bool → ℕ → ℕ → List Edge
-frameTouches shape structure cells a n = touches (leading shape) structure (lineStart shape structure cells) (run shape structure cells) a n
+frameTouches shape structure cells a n = touches (leading shape) structure (runsBefore shape structure cells) (frameRun shape structure cells) a n
