@@ -43,58 +43,84 @@ run-first shape structure cells n r h l =
     ∙ List·getD-append (gather (frameRuns shape structure cells) 0 n) (gather (frameRuns shape structure cells) (0 + n) (lines shape - n)) none r l
 
 module _ (shape structure : List ℕ) (cells more : List Bool) (n : ℕ) (F : Fits shape n cells) where
+  -- the runs of each line, how many stand before it, the runs by number, and the touches of n lines from line a on: of the old
+  -- lines alone, and (with a prime) of all
+  abbrev R : ℕ → List Run
+  R = frameRuns shape structure cells
+
+  abbrev R′ : ℕ → List Run
+  R′ = frameRuns shape structure (cells ++ more)
+
+  abbrev S : ℕ → ℕ
+  S = runsBefore shape structure cells
+
+  abbrev S′ : ℕ → ℕ
+  S′ = runsBefore shape structure (cells ++ more)
+
+  abbrev run : ℕ → Run
+  run = frameRun shape structure cells
+
+  abbrev run′ : ℕ → Run
+  run′ = frameRun shape structure (cells ++ more)
+
+  abbrev T : ℕ → ℕ → List Edge
+  T = frameTouches shape structure cells
+
+  abbrev T′ : ℕ → ℕ → List Edge
+  T′ = frameTouches shape structure (cells ++ more)
+
   -- ---- runs
 
-  pub runs-stay : (ℓ : ℕ) → ℓ < n → frameRuns shape structure (cells ++ more) ℓ ≡ frameRuns shape structure cells ℓ
+  pub runs-stay : (ℓ : ℕ) → ℓ < n → R′ ℓ ≡ R ℓ
   unfolding frameRuns
   runs-stay ℓ h = ap (lineRuns (leftOn shape structure)) (line-stays (width shape) cells more ℓ (rw (F .whole) (mul-le-mul-right (width shape) h)))
 
-  pub runs-new : (i : ℕ) → frameRuns shape structure (cells ++ more) (n + i) ≡ lineRuns (leftOn shape structure) (lineOf (width shape) more i)
+  pub runs-new : (i : ℕ) → R′ (n + i) ≡ lineRuns (leftOn shape structure) (lineOf (width shape) more i)
   unfolding frameRuns
   runs-new i = ap (lineRuns (leftOn shape structure)) (line-new (width shape) cells more n i (F .whole))
 
   all-stay : (ℓ : ℕ) → ℓ ≤ n → allRuns shape structure (cells ++ more) ℓ ≡ allRuns shape structure cells ℓ
   unfolding allRuns
-  all-stay ℓ h = gather-same (frameRuns shape structure (cells ++ more)) (frameRuns shape structure cells) 0 ℓ (λ k l u. runs-stay k (omega arith))
+  all-stay ℓ h = gather-same R′ R 0 ℓ (λ k l u. runs-stay k (omega arith))
 
-  pub starts-stay : (ℓ : ℕ) → ℓ ≤ n → runsBefore shape structure (cells ++ more) ℓ ≡ runsBefore shape structure cells ℓ
+  pub starts-stay : (ℓ : ℕ) → ℓ ≤ n → S′ ℓ ≡ S ℓ
   unfolding runsBefore
   starts-stay ℓ h = ap length (all-stay ℓ h)
 
-  pub run-stays : (r : ℕ) → r < runsBefore shape structure cells n → frameRun shape structure (cells ++ more) r ≡ frameRun shape structure cells r
+  pub run-stays : (r : ℕ) → r < S n → run′ r ≡ run r
   run-stays r h =
       run-first shape structure (cells ++ more) n r (F .below) (rw (starts-stay n (le-refl n)) h)
       ∙ ap (λ (rs : List Run). getD rs r none) (all-stay n (le-refl n))
       ∙ sym (run-first shape structure cells n r (F .below) h)
 
-  pub runs-grow : (k : ℕ) → allRuns shape structure (cells ++ more) (n + k) ≡ allRuns shape structure cells n ++ gather (frameRuns shape structure (cells ++ more)) n k
+  pub runs-grow : (k : ℕ) → allRuns shape structure (cells ++ more) (n + k) ≡ allRuns shape structure cells n ++ gather R′ n k
   unfolding allRuns
   runs-grow k =
-      gather-split (frameRuns shape structure (cells ++ more)) 0 n k
-      ∙ ap₂ (λ (x : List Run) (m : ℕ). x ++ gather (frameRuns shape structure (cells ++ more)) m k) (all-stay n (le-refl n)) (zero-add n)
+      gather-split R′ 0 n k
+      ∙ ap₂ (λ (x : List Run) (m : ℕ). x ++ gather R′ m k) (all-stay n (le-refl n)) (zero-add n)
 
   -- ---- touches
 
-  pub touches-stay : frameTouches shape structure (cells ++ more) 0 n ≡ frameTouches shape structure cells 0 n
+  pub touches-stay : T′ 0 n ≡ T 0 n
   touches-stay =
-      touches-same (leading shape) structure (runsBefore shape structure (cells ++ more)) (runsBefore shape structure cells) (frameRun shape structure (cells ++ more)) (frameRun shape structure cells) n starts-stay (start-le shape structure (cells ++ more))
+      touches-same (leading shape) structure S′ S run′ run n starts-stay (start-le shape structure (cells ++ more))
       (λ r h. run-stays r (rw (starts-stay n (le-refl n)) at h)) (F .below) 0 n (omega arith)
 
-  pub touches-grow : (k : ℕ) → frameTouches shape structure (cells ++ more) 0 (n + k) ≡ frameTouches shape structure cells 0 n ++ frameTouches shape structure (cells ++ more) n k
+  pub touches-grow : (k : ℕ) → T′ 0 (n + k) ≡ T 0 n ++ T′ n k
   touches-grow k =
-      touches-split (leading shape) structure (runsBefore shape structure (cells ++ more)) (frameRun shape structure (cells ++ more)) 0 n k
-      ∙ ap₂ (λ (x : List Edge) (m : ℕ). x ++ frameTouches shape structure (cells ++ more) m k) touches-stay (zero-add n)
+      touches-split (leading shape) structure S′ run′ 0 n k
+      ∙ ap₂ (λ (x : List Edge) (m : ℕ). x ++ T′ m k) touches-stay (zero-add n)
 
   -- ---- groups
 
   -- the new lines' touches, visited after any edges that group the old runs as their touches do, group all runs as all touches do
-  module _ (k : ℕ) (old : List Edge) (right : (a : ℕ) → rep old a ≡ rep (visit (frameTouches shape structure cells 0 n) []) a) where
-    both : visit (frameTouches shape structure (cells ++ more) n k) (visit (frameTouches shape structure cells 0 n) []) ≡ visit (frameTouches shape structure (cells ++ more) 0 (n + k)) []
-    both = sym (visit-append (frameTouches shape structure cells 0 n) (frameTouches shape structure (cells ++ more) n k) []) ∙ ap (λ (l : List Edge). visit l []) (sym (touches-grow k))
+  module _ (k : ℕ) (old : List Edge) (right : (a : ℕ) → rep old a ≡ rep (visit (T 0 n) []) a) where
+    both : visit (T′ n k) (visit (T 0 n) []) ≡ visit (T′ 0 (n + k)) []
+    both = sym (visit-append (T 0 n) (T′ n k) []) ∙ ap (λ (l : List Edge). visit l []) (sym (touches-grow k))
 
-    pub rep-grow : (a : ℕ) → rep (visit (frameTouches shape structure (cells ++ more) n k) old) a ≡ rep (visit (frameTouches shape structure (cells ++ more) 0 (n + k)) []) a
-    rep-grow a = rep-over (frameTouches shape structure (cells ++ more) n k) old (visit (frameTouches shape structure cells 0 n) []) right a ∙ ap (λ (l : List Edge). rep l a) both
+    pub rep-grow : (a : ℕ) → rep (visit (T′ n k) old) a ≡ rep (visit (T′ 0 (n + k)) []) a
+    rep-grow a = rep-over (T′ n k) old (visit (T 0 n) []) right a ∙ ap (λ (l : List Edge). rep l a) both
 
     -- and count the joins that were missing
-    pub joins-grow : joins (visit (frameTouches shape structure (cells ++ more) n k) old) + joins (visit (frameTouches shape structure cells 0 n) []) ≡ joins (visit (frameTouches shape structure (cells ++ more) 0 (n + k)) []) + joins old
-    joins-grow = joins-over (frameTouches shape structure (cells ++ more) n k) old (visit (frameTouches shape structure cells 0 n) []) right ∙ ap (λ (l : List Edge). joins l + joins old) both
+    pub joins-grow : joins (visit (T′ n k) old) + joins (visit (T 0 n) []) ≡ joins (visit (T′ 0 (n + k)) []) + joins old
+    joins-grow = joins-over (T′ n k) old (visit (T 0 n) []) right ∙ ap (λ (l : List Edge). joins l + joins old) both

@@ -11,7 +11,7 @@ use borrow.Author.Tests.{ne-eqb, ltb-true, ltb-false, lt-ltb}
 use lib.Dec.{ltb}
 use lib.Arith.{digits-div, digits-mod}
 use lib.ListN.{length, replicate}
-use Rattle.groups.specs.Groups.{Chain, one, more, Joined, Linked}
+use Rattle.groups.specs.Groups.{Chain, one, more, Edge, Joined, Linked}
 use Rattle.groups.proofs.BoolLaws.{and-true, or-left, or-right}
 use Rattle.groups.proofs.CountLaws.{count-off}
 use Rattle.groups.proofs.ChainLaws.{chain-trans, chain-sym, chain-map, chain-refl, chain-bind}
@@ -19,7 +19,7 @@ use Rattle.groups.proofs.RepLaws.{linked-sym}
 use Rattle.frame.specs.Shape.{size, width, leading, lines, coords}
 use Rattle.frame.specs.Structure.{offset, Moved, on, leftOn}
 use Rattle.frame.specs.ChainRule.{nonzero, Leads, Step}
-use Rattle.frame.specs.Runs.{goesOn, beginsRun, runOf, runsBefore, frameRun}
+use Rattle.frame.specs.Runs.{goesOn, beginsRun, runOf, Run, runsBefore, frameRun}
 use Rattle.frame.specs.Touches.{reaches, used, hasNbr, nbrLine, frameTouches}
 use Rattle.frame.proofs.ShapeLaws.{length-leading, length-coords, coords-inj, Fits, fits-size}
 use Rattle.frame.proofs.StructureLaws.{mid, twice-mid, next-mid, backward-mid, length-offset, offset-mid, left-on, moved-only, moved-still, line-moved}
@@ -64,16 +64,35 @@ one-left shape p q c ranked hc e hp hq lp lq m = (
     line = coords-inj ds (p / width shape) (q / width shape) lp lq (moved-only (coords ds (p / width shape)) (replicate (length ds) 1) (coords ds (p / width shape)) (coords ds (q / width shape)) still (rw (third, offset-mid (length ds)) at (move .0)))
 
 module _ (shape structure : List ℕ) (cells : List Bool) (n : ℕ) (F : Fits shape n cells) where
+  -- the leading dimensions and the width, how many runs stand before each line, the runs by number, the run of a cell, and the touches of all fed lines
+  abbrev ds : List ℕ
+  ds = leading shape
+
+  abbrev w : ℕ
+  w = width shape
+
+  abbrev S : ℕ → ℕ
+  S = runsBefore shape structure cells
+
+  abbrev run : ℕ → Run
+  run = frameRun shape structure cells
+
+  abbrev of : ℕ → ℕ
+  of = runOf shape structure cells
+
+  abbrev T : List Edge
+  T = frameTouches shape structure cells 0 n
+
   fits : length cells ≤ size shape
   fits = fits-size shape n cells F
 
-  line-in : (p : ℕ) → nonzero cells p ≡ true → p / width shape < lines shape
+  line-in : (p : ℕ) → nonzero cells p ≡ true → p / w < lines shape
   line-in p a = le-trans (line-below shape structure cells n F p a) (F .below)
 
   -- ---- a step stays in a run, or is a touch
 
   -- to the left, with the left byte nonzero: the same run
-  stays : (p q : ℕ) → nonzero cells p ≡ true → nonzero cells q ≡ true → leftOn shape structure ≡ true → p ≡ suc q → (p % width shape ≡ 0 → ⊥) → runOf shape structure cells p ≡ runOf shape structure cells q
+  stays : (p q : ℕ) → nonzero cells p ≡ true → nonzero cells q ≡ true → leftOn shape structure ≡ true → p ≡ suc q → (p % w ≡ 0 → ⊥) → of p ≡ of q
   unfolding runOf
   stays p q a b l e ne = rw e (ap (λ (k : ℕ). k - 1) (count-off (beginsRun shape structure cells) (suc q) (subst (λ (k : ℕ). beginsRun shape structure cells k ≡ false) e off)))
     where
@@ -81,7 +100,7 @@ module _ (shape structure : List ℕ) (cells : List Bool) (n : ℕ) (F : Fits sh
       back = omega arith
 
       goes : goesOn shape cells p ≡ true
-      goes = unfold goesOn in rw (ne-eqb (p % width shape) 0 ne, back, b)
+      goes = unfold goesOn in rw (ne-eqb (p % w) 0 ne, back, b)
 
       off : beginsRun shape structure cells p ≡ false
       off = unfold beginsRun in rw (a, l, goes)
@@ -93,18 +112,18 @@ module _ (shape structure : List ℕ) (cells : List Bool) (n : ℕ) (F : Fits sh
     hq : q < size shape
     hq = nonzero-under shape structure cells fits q b
 
-    low : L .code < mid (suc (length (leading shape)))
+    low : L .code < mid (suc (length ds))
     low = subst (λ (k : ℕ). L .code < mid k) (length-leading shape (F .ranked)) (ltb-true _ _ (sym (backward-mid (length shape) (L .code) (L .is-code)) ∙ L .is-backward))
 
-    same-run : L .code ≡ 3 * mid (length (leading shape)) → runOf shape structure cells p ≡ runOf shape structure cells q
+    same-run : L .code ≡ 3 * mid (length ds) → of p ≡ of q
     same-run e =
         let k = one-left shape p q (L .code) (F .ranked) (L .is-code) e hp hq (line-in p a) (line-in q b) (L .leads) in
         stays p q a b (left-on shape structure (F .ranked) ∙ ap (on structure) (sym e) ∙ L .is-on) (k .0) (k .1)
 
-    touch : L .code / 3 < mid (length (leading shape)) → Touch (leading shape) structure (runsBefore shape structure cells) (frameRun shape structure cells) 0 n (runOf shape structure cells p) (runOf shape structure cells q)
+    touch : L .code / 3 < mid (length ds) → Touch ds structure S run 0 n (of p) (of q)
     touch h =
         record {
-          line = p / width shape;
+          line = p / w;
           line-low = omega arith;
           line-high = omega (arith, line-below shape structure cells n F p a);
           lead = k;
@@ -113,16 +132,13 @@ module _ (shape structure : List ℕ) (cells : List Bool) (n : ℕ) (F : Fits sh
           has-nbr = found .0;
           r-low = P .low;
           r-high = P .high;
-          s-low = subst (λ (m : ℕ). runsBefore shape structure cells m ≤ runOf shape structure cells q) (sym (found .1)) (Q .low);
-          s-high = subst (λ (m : ℕ). runOf shape structure cells q < runsBefore shape structure cells (suc m)) (sym (found .1)) (Q .high);
+          s-low = subst (λ (m : ℕ). S m ≤ of q) (sym (found .1)) (Q .low);
+          s-high = subst (λ (m : ℕ). of q < S (suc m)) (sym (found .1)) (Q .high);
           reached =
-              rw zeroth at (meeting-reaches (λ t. on structure (3 * k + t)) (frameRun shape structure cells (runOf shape structure cells q)) (frameRun shape structure cells (runOf shape structure cells p))
-              (record { t = L .code % 3; is-t = omega arith; is-on = byte; x = p % width shape; in-c = P .covers; y = q % width shape; in-m = Q .covers; along = move .1 }));
+              rw zeroth at (meeting-reaches (λ t. on structure (3 * k + t)) (run (of q)) (run (of p))
+              (record { t = L .code % 3; is-t = omega arith; is-on = byte; x = p % w; in-c = P .covers; y = q % w; in-m = Q .covers; along = move .1 }));
         }
       where
-        ds : List ℕ
-        ds = leading shape
-
         k : ℕ
         k = L .code / 3
 
@@ -132,11 +148,11 @@ module _ (shape structure : List ℕ) (cells : List Bool) (n : ℕ) (F : Fits sh
         Q : InRun shape structure cells n F q
         Q = cell-run shape structure cells n F q b
 
-        move : Moved (coords ds (p / width shape)) (offset (length ds) k) (coords ds (q / width shape)) × (p % width shape + L .code % 3 ≡ suc (q % width shape))
+        move : Moved (coords ds (p / w)) (offset (length ds) k) (coords ds (q / w)) × (p % w + L .code % 3 ≡ suc (q % w))
         move = line-moved shape (L .code) p q (F .ranked) (L .is-code) hp hq .0 (L .leads)
 
-        found : (hasNbr ds (offset (length ds) k) (p / width shape) ≡ true) × (nbrLine ds (offset (length ds) k) (p / width shape) ≡ q / width shape)
-        found = nbr-found ds (offset (length ds) k) (p / width shape) (q / width shape) (line-in p a) (line-in q b) (length-offset (length ds) k) (move .0)
+        found : (hasNbr ds (offset (length ds) k) (p / w) ≡ true) × (nbrLine ds (offset (length ds) k) (p / w) ≡ q / w)
+        found = nbr-found ds (offset (length ds) k) (p / w) (q / w) (line-in p a) (line-in q b) (length-offset (length ds) k) (move .0)
 
         byte : on structure (3 * k + L .code % 3) ≡ true
         byte = let e : 3 * (L .code / 3) + L .code % 3 ≡ L .code = omega arith in ap (on structure) e ∙ L .is-on
@@ -144,21 +160,18 @@ module _ (shape structure : List ℕ) (cells : List Bool) (n : ℕ) (F : Fits sh
         zeroth : 3 * k + 0 ≡ 3 * k
         zeroth = omega arith
 
-    leads-linked : Linked (frameTouches shape structure cells 0 n) (runOf shape structure cells p) (runOf shape structure cells q)
-    leads-linked = go (ltb (L .code / 3) (mid (length (leading shape)))) refl
+    leads-linked : Linked T (of p) (of q)
+    leads-linked = go (ltb (L .code / 3) (mid (length ds))) refl
       where
-        go : (t : Bool) → ltb (L .code / 3) (mid (length (leading shape))) ≡ t → Linked (frameTouches shape structure cells 0 n) (runOf shape structure cells p) (runOf shape structure cells q)
-        go true t = more (inl (from-touches (leading shape) structure (runsBefore shape structure cells) (frameRun shape structure cells) 0 n _ _ (touch (ltb-true _ _ t)))) one
-        go false t = chain-refl (same-run (let k = ltb-false (L .code / 3) (mid (length (leading shape))) t in omega (arith, next-mid (length (leading shape)), low)))
+        go : (t : Bool) → ltb (L .code / 3) (mid (length ds)) ≡ t → Linked T (of p) (of q)
+        go true t = more (inl (from-touches ds structure S run 0 n _ _ (touch (ltb-true _ _ t)))) one
+        go false t = chain-refl (same-run (let k = ltb-false (L .code / 3) (mid (length ds)) t in omega (arith, next-mid (length ds), low)))
 
   -- ---- a touch is a step
 
-  touch-step : (r s : ℕ) → Touch (leading shape) structure (runsBefore shape structure cells) (frameRun shape structure cells) 0 n r s → RunStep shape structure cells r s
+  touch-step : (r s : ℕ) → Touch ds structure S run 0 n r s → RunStep shape structure cells r s
   touch-step r s T = record { p = p; q = q; steps = record { here = P .1; there = Q .1; way = inl leads }; of-r = P .2; of-s = Q .2 }
     where
-      ds : List ℕ
-      ds = leading shape
-
       ℓ : ℕ
       ℓ = T .line
 
@@ -177,22 +190,22 @@ module _ (shape structure : List ℕ) (cells : List Bool) (n : ℕ) (F : Fits sh
       zeroth : 3 * k ≡ 3 * k + 0
       zeroth = omega arith
 
-      M : Meeting (λ t. on structure (3 * k + t)) (frameRun shape structure cells s) (frameRun shape structure cells r)
+      M : Meeting (λ t. on structure (3 * k + t)) (run s) (run r)
       M =
-          reaches-meeting (λ t. on structure (3 * k + t)) (frameRun shape structure cells s) (frameRun shape structure cells r)
+          reaches-meeting (λ t. on structure (3 * k + t)) (run s) (run r)
           (run-within shape structure cells m s (moves .0) (T .s-low) (T .s-high) .full) (run-within shape structure cells ℓ r hl (T .r-low) (T .r-high) .full)
-          (subst (λ (z : ℕ). reaches (on structure z) (on structure (3 * k + 1)) (on structure (3 * k + 2)) (frameRun shape structure cells s) (frameRun shape structure cells r) ≡ true) zeroth (T .reached))
+          (subst (λ (z : ℕ). reaches (on structure z) (on structure (3 * k + 1)) (on structure (3 * k + 2)) (run s) (run r) ≡ true) zeroth (T .reached))
 
       p : ℕ
-      p = ℓ * width shape + M .x
+      p = ℓ * w + M .x
 
       q : ℕ
-      q = m * width shape + M .y
+      q = m * w + M .y
 
-      P : (M .x < width shape) × (nonzero cells p ≡ true) × (runOf shape structure cells p ≡ r)
+      P : (M .x < w) × (nonzero cells p ≡ true) × (of p ≡ r)
       P = run-cells shape structure cells ℓ r hl (T .r-low) (T .r-high) (M .x) (M .in-c)
 
-      Q : (M .y < width shape) × (nonzero cells q ≡ true) × (runOf shape structure cells q ≡ s)
+      Q : (M .y < w) × (nonzero cells q ≡ true) × (of q ≡ s)
       Q = run-cells shape structure cells m s (moves .0) (T .s-low) (T .s-high) (M .y) (M .in-m)
 
       c : ℕ
@@ -226,34 +239,34 @@ module _ (shape structure : List ℕ) (cells : List Bool) (n : ℕ) (F : Fits sh
 
   -- ---- both ways
 
-  pub linked-steps : (r s : ℕ) → Linked (frameTouches shape structure cells 0 n) r s → Chain (RunStep shape structure cells) r s
+  pub linked-steps : (r s : ℕ) → Linked T r s → Chain (RunStep shape structure cells) r s
   linked-steps r s h = chain-map go h
     where
       turn : (x y : ℕ) → RunStep shape structure cells x y → RunStep shape structure cells y x
       turn x y t = record { p = t .q; q = t .p; steps = step-flip shape structure cells (t .p) (t .q) (t .steps); of-r = t .of-s; of-s = t .of-r }
 
-      go : (x y : ℕ) → Joined (frameTouches shape structure cells 0 n) x y → RunStep shape structure cells x y
-      go x y (inl m) = touch-step x y (touches-from (leading shape) structure (runsBefore shape structure cells) (frameRun shape structure cells) 0 n x y m)
-      go x y (inr m) = turn y x (touch-step y x (touches-from (leading shape) structure (runsBefore shape structure cells) (frameRun shape structure cells) 0 n y x m))
+      go : (x y : ℕ) → Joined T x y → RunStep shape structure cells x y
+      go x y (inl m) = touch-step x y (touches-from ds structure S run 0 n x y m)
+      go x y (inr m) = turn y x (touch-step y x (touches-from ds structure S run 0 n y x m))
 
-  step-linked : (p q : ℕ) → Step shape structure cells p q → Linked (frameTouches shape structure cells 0 n) (runOf shape structure cells p) (runOf shape structure cells q)
+  step-linked : (p q : ℕ) → Step shape structure cells p q → Linked T (of p) (of q)
   step-linked p q s = go (s .way)
     where
-      go : Leads shape structure p q ⊎ Leads shape structure q p → Linked (frameTouches shape structure cells 0 n) (runOf shape structure cells p) (runOf shape structure cells q)
+      go : Leads shape structure p q ⊎ Leads shape structure q p → Linked T (of p) (of q)
       go (inl l) = leads-linked p q (s .here) (s .there) l
-      go (inr l) = linked-sym (frameTouches shape structure cells 0 n) (leads-linked q p (s .there) (s .here) l)
+      go (inr l) = linked-sym T (leads-linked q p (s .there) (s .here) l)
 
-  pub steps-linked : (r s : ℕ) → Chain (RunStep shape structure cells) r s → Linked (frameTouches shape structure cells 0 n) r s
+  pub steps-linked : (r s : ℕ) → Chain (RunStep shape structure cells) r s → Linked T r s
   steps-linked r s h = chain-bind (λ k. k) go h
     where
-      go : (x y : ℕ) → RunStep shape structure cells x y → Linked (frameTouches shape structure cells 0 n) x y
+      go : (x y : ℕ) → RunStep shape structure cells x y → Linked T x y
       go x y t = chain-trans (chain-refl (sym (t .of-r))) (chain-trans (step-linked (t .p) (t .q) (t .steps)) (chain-refl (t .of-s)))
 
   -- the law
   pub chain-linked : (p q : ℕ) → nonzero cells p ≡ true → nonzero cells q ≡ true
-      → Chain (Step shape structure cells) p q ↔ Linked (frameTouches shape structure cells 0 n) (runOf shape structure cells p) (runOf shape structure cells q)
+      → Chain (Step shape structure cells) p q ↔ Linked T (of p) (of q)
   chain-linked p q a b = (
-    λ h. chain-bind (runOf shape structure cells) step-linked h,
+    λ h. chain-bind of step-linked h,
     λ h.
         let up = chain-bind (startOf shape structure cells) (lift-step shape structure cells fits) (linked-steps _ _ h) in
         chain-trans (chain-start shape structure cells fits p a) (chain-trans up (chain-sym (step-flip shape structure cells) (chain-start shape structure cells fits q b))),

@@ -22,42 +22,53 @@ use Rattle.frame.proofs.TouchLaws.{touches-below}
 use Rattle.frame.proofs.LinkLaws.{linked-steps, steps-linked}
 
 module _ (shape structure : List ℕ) (cells : List Bool) (n : ℕ) (F : Fits shape n cells) where
+  -- the touches of all fed lines
+  abbrev T : List Edge
+  T = frameTouches shape structure cells 0 n
+
+  -- their runs, and the run of a cell
+  abbrev N : ℕ
+  N = runs shape structure cells
+
+  abbrev of : ℕ → ℕ
+  of = runOf shape structure cells
+
   -- both runs of every touch are runs of the fed lines
-  pub touches-runs : Ends (λ r. r < runs shape structure cells) (frameTouches shape structure cells 0 n)
+  pub touches-runs : Ends (λ r. r < N) T
   touches-runs =
-      subst (λ (k : ℕ). Ends (λ r. r < k) (frameTouches shape structure cells 0 n)) (ap (runsBefore shape structure cells) (zero-add n) ∙ sym (runs-all shape structure cells n F))
+      subst (λ (k : ℕ). Ends (λ r. r < k) T) (ap (runsBefore shape structure cells) (zero-add n) ∙ sym (runs-all shape structure cells n F))
       (touches-below (leading shape) structure (runsBefore shape structure cells) (frameRun shape structure cells) (start-le shape structure cells) 0 n (omega (arith, F .below)))
 
   -- for every list that joins what the touches join, in any order and with repeats
-  module _ (es : List Edge) (into : (a b : ℕ) → Joined es a b → Joined (frameTouches shape structure cells 0 n) a b) (onto : (a b : ℕ) → Joined (frameTouches shape structure cells 0 n) a b → Joined es a b) where
+  module _ (es : List Edge) (into : (a b : ℕ) → Joined es a b → Joined T a b) (onto : (a b : ℕ) → Joined T a b → Joined es a b) where
     -- n of the cells is the number of groups of runs
-    pub groups-runs : groups (λ r. true) es (runs shape structure cells) ≡ groupCount shape structure cells
+    pub groups-runs : groups (λ r. true) es N ≡ groupCount shape structure cells
     groups-runs =
         runs-count shape structure cells (fits-size shape n cells F) es (λ r s h. linked-steps shape structure cells n F r s (chain-map into h)) (λ r s h. chain-map onto (steps-linked shape structure cells n F r s h))
 
     -- a cell's number is its run's
-    pub number-runs : (p : ℕ) → p < size shape → cond (nonzero cells p) (number (λ r. true) es (runOf shape structure cells p)) 0 ≡ label shape structure cells p
+    pub number-runs : (p : ℕ) → p < size shape → cond (nonzero cells p) (number (λ r. true) es (of p)) 0 ≡ label shape structure cells p
     number-runs =
         runs-label shape structure cells (fits-size shape n cells F) es (λ r s h. linked-steps shape structure cells n F r s (chain-map into h)) (λ r s h. chain-map onto (steps-linked shape structure cells n F r s h))
 
     -- runs = n + joins
-    pub joins-runs : Ends (λ r. r < runs shape structure cells) es → groupCount shape structure cells + joins es ≡ runs shape structure cells
+    pub joins-runs : Ends (λ r. r < N) es → groupCount shape structure cells + joins es ≡ N
     joins-runs =
         runs-joins shape structure cells (fits-size shape n cells F) es (λ r s h. linked-steps shape structure cells n F r s (chain-map into h)) (λ r s h. chain-map onto (steps-linked shape structure cells n F r s h))
 
   -- ---- the touches, visited one after the other
 
-  into : (a b : ℕ) → Joined (visit (frameTouches shape structure cells 0 n) []) a b → Joined (frameTouches shape structure cells 0 n) a b
-  into a b h = rw append-nil at (visit-joined (frameTouches shape structure cells 0 n) [] a b h)
+  into : (a b : ℕ) → Joined (visit T []) a b → Joined T a b
+  into a b h = rw append-nil at (visit-joined T [] a b h)
 
-  onto : (a b : ℕ) → Joined (frameTouches shape structure cells 0 n) a b → Joined (visit (frameTouches shape structure cells 0 n) []) a b
-  onto a b h = joined-visit (frameTouches shape structure cells 0 n) [] a b (rw append-nil h)
+  onto : (a b : ℕ) → Joined T a b → Joined (visit T []) a b
+  onto a b h = joined-visit T [] a b (rw append-nil h)
 
-  pub groups-visited : groups (λ r. true) (visit (frameTouches shape structure cells 0 n) []) (runs shape structure cells) ≡ groupCount shape structure cells
+  pub groups-visited : groups (λ r. true) (visit T []) N ≡ groupCount shape structure cells
   groups-visited = groups-runs _ into onto
 
-  pub number-visited : (p : ℕ) → p < size shape → cond (nonzero cells p) (number (λ r. true) (visit (frameTouches shape structure cells 0 n) []) (runOf shape structure cells p)) 0 ≡ label shape structure cells p
+  pub number-visited : (p : ℕ) → p < size shape → cond (nonzero cells p) (number (λ r. true) (visit T []) (of p)) 0 ≡ label shape structure cells p
   number-visited = number-runs _ into onto
 
-  pub joins-visited : groupCount shape structure cells + joins (visit (frameTouches shape structure cells 0 n) []) ≡ runs shape structure cells
-  joins-visited = joins-runs _ into onto (ends-visit (λ r. r < runs shape structure cells) (frameTouches shape structure cells 0 n) [] touches-runs tt)
+  pub joins-visited : groupCount shape structure cells + joins (visit T []) ≡ N
+  joins-visited = joins-runs _ into onto (ends-visit (λ r. r < N) T [] touches-runs tt)

@@ -93,15 +93,31 @@ pub record RunStep (shape structure : List ℕ) (cells : List Bool) (r s : ℕ) 
   pub of-s : runOf shape structure cells q ≡ s
 
 module _ (shape structure : List ℕ) (cells : List Bool) where
+  -- the cells that begin a run, the run of a cell, the cell that begins a run, how many runs there are, and steps
+  abbrev begins : ℕ → Bool
+  begins = beginsRun shape structure cells
+
+  abbrev of : ℕ → ℕ
+  of = runOf shape structure cells
+
+  abbrev start : ℕ → ℕ
+  start = startOf shape structure cells
+
+  abbrev N : ℕ
+  N = runs shape structure cells
+
+  abbrev Steps : ℕ → ℕ → Type 0
+  Steps = Step shape structure cells
+
   -- b begins the run that p is of, and a chain leads to it
   pub record Begun (p b : ℕ) : Type 0 where
     pub at-most : b ≤ p
-    pub begins : beginsRun shape structure cells b ≡ true
-    pub ranks : count (beginsRun shape structure cells) (suc b) ≡ count (beginsRun shape structure cells) (suc p)
-    pub chained : Chain (Step shape structure cells) p b
+    pub is-begin : begins b ≡ true
+    pub ranks : count begins (suc b) ≡ count begins (suc p)
+    pub chained : Chain Steps p b
 
   -- a nonzero cell begins a run, or the left byte is nonzero and it goes on
-  begins-or : (p : ℕ) → nonzero cells p ≡ true → (beginsRun shape structure cells p ≡ true) ⊎ ((beginsRun shape structure cells p ≡ false) × (leftOn shape structure ≡ true) × (goesOn shape cells p ≡ true))
+  begins-or : (p : ℕ) → nonzero cells p ≡ true → (begins p ≡ true) ⊎ ((begins p ≡ false) × (leftOn shape structure ≡ true) × (goesOn shape cells p ≡ true))
   unfolding beginsRun
   begins-or p a = go (leftOn shape structure) refl (goesOn shape cells p) refl
     where
@@ -110,13 +126,13 @@ module _ (shape structure : List ℕ) (cells : List Bool) where
       go true eb false ec = inl (rw (a, eb, ec))
       go true eb true ec = inr (rw (a, eb, ec), eb, ec)
 
-  here-begun : (p : ℕ) → beginsRun shape structure cells p ≡ true → (b : ℕ) × Begun p b
-  here-begun p e = (p, record { at-most = le-refl p; begins = e; ranks = refl; chained = one })
+  here-begun : (p : ℕ) → begins p ≡ true → (b : ℕ) × Begun p b
+  here-begun p e = (p, record { at-most = le-refl p; is-begin = e; ranks = refl; chained = one })
 
   begun : (p : ℕ) → p < size shape → nonzero cells p ≡ true → (b : ℕ) × Begun p b
   begun zero h a = go (begins-or zero a)
     where
-      go : (beginsRun shape structure cells 0 ≡ true) ⊎ ((beginsRun shape structure cells 0 ≡ false) × (leftOn shape structure ≡ true) × (goesOn shape cells 0 ≡ true)) → (b : ℕ) × Begun 0 b
+      go : (begins 0 ≡ true) ⊎ ((begins 0 ≡ false) × (leftOn shape structure ≡ true) × (goesOn shape cells 0 ≡ true)) → (b : ℕ) × Begun 0 b
       go (inl e) = here-begun 0 e
       go (inr g) = absurd (omega (arith, goes-pos structure cells shape 0 (g .2)))
   begun (suc p) h a = go (begun p (omega arith)) (begins-or (suc p) a)
@@ -124,7 +140,7 @@ module _ (shape structure : List ℕ) (cells : List Bool) where
       back : suc p - 1 ≡ p
       back = omega arith
 
-      go : (nonzero cells p ≡ true → (b : ℕ) × Begun p b) → (beginsRun shape structure cells (suc p) ≡ true) ⊎ ((beginsRun shape structure cells (suc p) ≡ false) × (leftOn shape structure ≡ true) × (goesOn shape cells (suc p) ≡ true)) → (b : ℕ) × Begun (suc p) b
+      go : (nonzero cells p ≡ true → (b : ℕ) × Begun p b) → (begins (suc p) ≡ true) ⊎ ((begins (suc p) ≡ false) × (leftOn shape structure ≡ true) × (goesOn shape cells (suc p) ≡ true)) → (b : ℕ) × Begun (suc p) b
       go below (inl e) = here-begun (suc p) e
       go below (inr g) =
           let l : nonzero cells p ≡ true = rw back at (goes-nonzero structure cells shape (suc p) (g .2)) in
@@ -134,8 +150,8 @@ module _ (shape structure : List ℕ) (cells : List Bool) where
             r .0,
             record {
               at-most = omega (arith, R .at-most);
-              begins = R .begins;
-              ranks = R .ranks ∙ sym (count-off (beginsRun shape structure cells) (suc p) (g .0));
+              is-begin = R .is-begin;
+              ranks = R .ranks ∙ sym (count-off begins (suc p) (g .0));
               chained = more (record { here = a; there = l; way = inl s }) (R .chained);
             },
           )
@@ -145,51 +161,51 @@ module _ (shape structure : List ℕ) (cells : List Bool) where
     pub nonzero-under : (p : ℕ) → nonzero cells p ≡ true → p < size shape
     nonzero-under p a = lt-of-lt-of-le (nonzero-below cells p a) fits
 
-    placed : (p : ℕ) → nonzero cells p ≡ true → (b : ℕ) × Begun p b × Placed (beginsRun shape structure cells) (size shape) (runOf shape structure cells p) b
+    placed : (p : ℕ) → nonzero cells p ≡ true → (b : ℕ) × Begun p b × Placed begins (size shape) (of p) b
     unfolding runOf
     placed p a =
         let h = nonzero-under p a in
         let r = begun p h a in
-        (r .0, r .1, record { under = omega (arith, r .1 .at-most); passes = r .1 .begins; rank = omega (arith, r .1 .ranks, count-on (beginsRun shape structure cells) (r .0) (r .1 .begins)) })
+        (r .0, r .1, record { under = omega (arith, r .1 .at-most); passes = r .1 .is-begin; rank = omega (arith, r .1 .ranks, count-on begins (r .0) (r .1 .is-begin)) })
 
-    pub run-below : (p : ℕ) → nonzero cells p ≡ true → runOf shape structure cells p < runs shape structure cells
+    pub run-below : (p : ℕ) → nonzero cells p ≡ true → of p < N
     unfolding runs
     run-below p a =
         let t = placed p a in
-        omega (arith, t .2 .rank, count-on (beginsRun shape structure cells) (t .0) (t .2 .passes), count-mono (beginsRun shape structure cells) (suc (t .0)) (size shape) (t .2 .under))
+        omega (arith, t .2 .rank, count-on begins (t .0) (t .2 .passes), count-mono begins (suc (t .0)) (size shape) (t .2 .under))
 
-    pub start-right : (r : ℕ) → r < runs shape structure cells → Placed (beginsRun shape structure cells) (size shape) r (startOf shape structure cells r)
+    pub start-right : (r : ℕ) → r < N → Placed begins (size shape) r (start r)
     unfolding runs startOf
-    start-right r h = place-right (beginsRun shape structure cells) (size shape) r h
+    start-right r h = place-right begins (size shape) r h
 
-    start-is : (p : ℕ) (a : nonzero cells p ≡ true) → placed p a .0 ≡ startOf shape structure cells (runOf shape structure cells p)
-    start-is p a = placed-only _ _ _ _ _ (placed p a .2) (start-right (runOf shape structure cells p) (run-below p a))
+    start-is : (p : ℕ) (a : nonzero cells p ≡ true) → placed p a .0 ≡ start (of p)
+    start-is p a = placed-only _ _ _ _ _ (placed p a .2) (start-right (of p) (run-below p a))
 
-    pub start-nonzero : (r : ℕ) → r < runs shape structure cells → nonzero cells (startOf shape structure cells r) ≡ true
+    pub start-nonzero : (r : ℕ) → r < N → nonzero cells (start r) ≡ true
     unfolding beginsRun
-    start-nonzero r h = and-left (nonzero cells (startOf shape structure cells r)) _ (start-right r h .passes)
+    start-nonzero r h = and-left (nonzero cells (start r)) _ (start-right r h .passes)
 
-    pub chain-start : (p : ℕ) → nonzero cells p ≡ true → Chain (Step shape structure cells) p (startOf shape structure cells (runOf shape structure cells p))
-    chain-start p a = subst (λ (k : ℕ). Chain (Step shape structure cells) p k) (start-is p a) (placed p a .1 .chained)
+    pub chain-start : (p : ℕ) → nonzero cells p ≡ true → Chain Steps p (start (of p))
+    chain-start p a = subst (λ (k : ℕ). Chain Steps p k) (start-is p a) (placed p a .1 .chained)
 
-    pub run-of-start : (r : ℕ) → r < runs shape structure cells → runOf shape structure cells (startOf shape structure cells r) ≡ r
+    pub run-of-start : (r : ℕ) → r < N → of (start r) ≡ r
     unfolding runOf
-    run-of-start r h = let t = start-right r h in omega (arith, t .rank, count-on (beginsRun shape structure cells) (startOf shape structure cells r) (t .passes))
+    run-of-start r h = let t = start-right r h in omega (arith, t .rank, count-on begins (start r) (t .passes))
 
-    pub start-less : (r s : ℕ) → r < s → s < runs shape structure cells → startOf shape structure cells r < startOf shape structure cells s
-    start-less r s l h = go (leb (startOf shape structure cells s) (startOf shape structure cells r)) refl
+    pub start-less : (r s : ℕ) → r < s → s < N → start r < start s
+    start-less r s l h = go (leb (start s) (start r)) refl
       where
-        go : (b : Bool) → leb (startOf shape structure cells s) (startOf shape structure cells r) ≡ b → startOf shape structure cells r < startOf shape structure cells s
-        go true t = absurd (omega (arith, count-mono (beginsRun shape structure cells) (startOf shape structure cells s) (startOf shape structure cells r) (leb-true _ _ t), start-right r (omega arith) .rank, start-right s h .rank))
+        go : (b : Bool) → leb (start s) (start r) ≡ b → start r < start s
+        go true t = absurd (omega (arith, count-mono begins (start s) (start r) (leb-true _ _ t), start-right r (omega arith) .rank, start-right s h .rank))
         go false t = leb-false _ _ t
 
-    pub lift-step : (r s : ℕ) → RunStep shape structure cells r s → Chain (Step shape structure cells) (startOf shape structure cells r) (startOf shape structure cells s)
+    pub lift-step : (r s : ℕ) → RunStep shape structure cells r s → Chain Steps (start r) (start s)
     lift-step r s t =
-        let a = subst (λ (k : ℕ). Chain (Step shape structure cells) (t .p) (startOf shape structure cells k)) (t .of-r) (chain-start (t .p) (t .steps .here)) in
-        let b = subst (λ (k : ℕ). Chain (Step shape structure cells) (t .q) (startOf shape structure cells k)) (t .of-s) (chain-start (t .q) (t .steps .there)) in
+        let a = subst (λ (k : ℕ). Chain Steps (t .p) (start k)) (t .of-r) (chain-start (t .p) (t .steps .here)) in
+        let b = subst (λ (k : ℕ). Chain Steps (t .q) (start k)) (t .of-s) (chain-start (t .q) (t .steps .there)) in
         chain-trans (chain-sym (step-flip shape structure cells) a) (more (t .steps) b)
 
-    pub runs-onto : Onto (nonzero cells) (Step shape structure cells) (size shape) (RunStep shape structure cells) (runs shape structure cells) (runOf shape structure cells) (startOf shape structure cells)
+    pub runs-onto : Onto (nonzero cells) Steps (size shape) (RunStep shape structure cells) N of start
     runs-onto = record {
       flip = step-flip shape structure cells;
       run-below = λ p h a. run-below p a;
@@ -201,24 +217,24 @@ module _ (shape structure : List ℕ) (cells : List Bool) where
       start-mono = start-less;
       down = λ p q s. more (record { p = p; q = q; steps = s; of-r = refl; of-s = refl }) one;
       lift = lift-step;
-      inside = λ r s t. subst (λ (k : ℕ). k < runs shape structure cells) (t .of-s) (run-below (t .q) (t .steps .there));
+      inside = λ r s t. subst (λ (k : ℕ). k < N) (t .of-s) (run-below (t .q) (t .steps .there));
     }
 
     -- edges between runs that join what steps join give the count, the numbers and the joins
     module _ (es : List Edge) (sound : (r s : ℕ) → Chain (Joined es) r s → Chain (RunStep shape structure cells) r s) (whole : (r s : ℕ) → Chain (RunStep shape structure cells) r s → Chain (Joined es) r s) where
-      runs-number : Numbered (nonzero cells) (Step shape structure cells) (size shape) (groups (λ r. true) es (runs shape structure cells)) (λ p. cond (nonzero cells p) (number (λ r. true) es (runOf shape structure cells p)) 0)
-      runs-number = by-runs runs-onto _ _ (numbered-over sound whole (number-right (λ r. true) es (all-live es) (runs shape structure cells)))
+      runs-number : Numbered (nonzero cells) Steps (size shape) (groups (λ r. true) es N) (λ p. cond (nonzero cells p) (number (λ r. true) es (of p)) 0)
+      runs-number = by-runs runs-onto _ _ (numbered-over sound whole (number-right (λ r. true) es (all-live es) N))
 
-      pub runs-count : groups (λ r. true) es (runs shape structure cells) ≡ groupCount shape structure cells
+      pub runs-count : groups (λ r. true) es N ≡ groupCount shape structure cells
       runs-count = count-only shape structure cells _ _ runs-number
 
-      pub runs-label : (p : ℕ) → p < size shape → cond (nonzero cells p) (number (λ r. true) es (runOf shape structure cells p)) 0 ≡ label shape structure cells p
+      pub runs-label : (p : ℕ) → p < size shape → cond (nonzero cells p) (number (λ r. true) es (of p)) 0 ≡ label shape structure cells p
       runs-label p h = label-only shape structure cells _ _ runs-number p h
 
       -- the joins that a program over runs counts
-      pub runs-joins : Ends (λ r. r < runs shape structure cells) es → groupCount shape structure cells + joins es ≡ runs shape structure cells
+      pub runs-joins : Ends (λ r. r < N) es → groupCount shape structure cells + joins es ≡ N
       runs-joins w =
-          ap (λ (k : ℕ). k + joins es) (sym runs-count) ∙ groups-joins (λ r. true) (runs shape structure cells) es w (all-live es) ∙ count-all (runs shape structure cells)
+          ap (λ (k : ℕ). k + joins es) (sym runs-count) ∙ groups-joins (λ r. true) N es w (all-live es) ∙ count-all N
 
 -- no run begins beyond the fed cells, so they are counted there
 module _ (shape structure : List ℕ) (cells : List Bool) where
