@@ -14,13 +14,13 @@ use Rattle.frame.specs.Runs.{goesOn, beginsRun, runs, Run, stretches, si
 use Rattle.frame.specs.Touches.{reaches, used, hasNbr, nbrLine, touchesBy, touchesOf, touches, frameTouches}
 use Rattle.frame.specs.Kinds.{nz, nzℤ, nzF, flags, u8, u16, u32, largest, holds}
 use Rattle.frame.specs.Memory.{perLine, wordsNeeded}
-use Rattle.frame.specs.Causes.{badRank, hasZero, tooLarge, firstCause, openTests, openCause, feedCause, readCause, sizesCause, frameCause}
+use Rattle.frame.specs.Causes.{badRank, hasZero, tooLarge, firstCause, openTests, openCause, feedTests, feedCause, readTests, readCause, sizesTests, sizesCause, frameTests, frameCause}
 use Rattle.frame.specs.Plain.{unless, kept, feeds, groupsOf, figures, cause, answer, written, next, plain, session}
 use Rattle.frame.specs.Frames.{asked, nine, slips, refusals, frames}
 
 -- what the computation of a session opens
 computed : Unit {0}
-unfolding merge rep isRoot count groups gather pairs number size width leading coords offset backward on leftOn nonzero sameList any leadsBy step edges groupCount label range labels sizeOf sizesOf goesOn beginsRun runs nz nzℤ nzF flags largest holds perLine wordsNeeded badRank hasZero tooLarge firstCause openTests openCause feedCause readCause sizesCause unless kept feeds groupsOf figures cause answer written next plain session zipWith
+unfolding merge rep isRoot count groups gather pairs number size width leading coords offset backward on leftOn nonzero sameList any leadsBy step edges groupCount label range labels sizeOf sizesOf goesOn beginsRun runs nz nzℤ nzF flags largest holds perLine wordsNeeded badRank hasZero tooLarge firstCause openTests openCause feedTests feedCause readTests readCause sizesTests sizesCause unless kept feeds groupsOf figures cause answer written next plain session zipWith
 computed = tt
 
 -- ---- the fact: every session of the list is answered as it stands there
@@ -56,7 +56,7 @@ order =
     ∷ []
 
 order-right : order ≡ 6 ∷ 7 ∷ 8 ∷ 0 ∷ 6 ∷ 9 ∷ 10 ∷ 0 ∷ 10 ∷ 0 ∷ 10 ∷ 0 ∷ 6 ∷ 9 ∷ 0 ∷ 5 ∷ 8 ∷ 9 ∷ 10 ∷ 0 ∷ []
-unfolding order frameCause computed
+unfolding order frameTests frameCause computed
 order-right = refl
 
 -- ---- touches: the runs of a frame's lines, and which touch, by offset in C order

@@ -7,8 +7,8 @@ use mathlib.Core.List.{List, [], _∷_}
 use Prim.Native.Nat.{ℕ, _*_, _≤_}
 use native.Mathlib.Omega.{arith}
 use borrow.Author.Tests.{eqb-true, eq-eqb, ltb-false, not-false}
-use lib.Dec.{eqb, ltb}
-use Rattle.frame.specs.Causes.{Test, when, firstCause, feedCause, readCause, sizesCause}
+use lib.Dec.{eqb}
+use Rattle.frame.specs.Causes.{Test, firstCause, openTests, feedTests, feedCause, readTests, readCause, sizesTests, sizesCause, frameTests}
 
 -- ---- accepted
 
@@ -21,6 +21,7 @@ abbrev pub NoneHolds : List Test → Type 0
 NoneHolds [] = Unit {0}
 NoneHolds (t ∷ ts) = (t .holds ≡ false) × NoneHolds ts
 
+-- no cause exactly when none of the conditions holds
 pub accepted : (ts : List Test) → Real ts → firstCause ts ≡ 0 ↔ NoneHolds ts
 unfolding firstCause
 accepted [] r = (λ e. tt, λ h. refl)
@@ -30,57 +31,79 @@ accepted (t ∷ ts) r = go (t .holds) refl (accepted ts (r .1))
     go true e i = (λ h. absurd (r .0 (rw e at h)), λ h. absurd (true≢false (sym e ∙ h .0)))
     go false e i = (λ h. (e, i .0 (rw e at h)), λ h. rw e (i .1 (h .1)))
 
+-- so of every call
+pub open-real : (shape structure : List ℕ) (memory : ℕ) → Real (openTests shape structure memory)
+unfolding openTests
+open-real shape structure memory = ((λ z. omega arith), ((λ z. omega arith), ((λ z. omega arith), ((λ z. omega arith), ((λ z. omega arith), tt)))))
+
+pub feed-real : (sound : Bool) (left k w cells : ℕ) → Real (feedTests sound left k w cells)
+unfolding feedTests
+feed-real sound left k w cells = ((λ z. omega arith), ((λ z. omega arith), ((λ z. omega arith), tt)))
+
+pub read-real : (sound : Bool) (out wanted : ℕ) (fits : Bool) → Real (readTests sound out wanted fits)
+unfolding readTests
+read-real sound out wanted fits = ((λ z. omega arith), ((λ z. omega arith), ((λ z. omega arith), tt)))
+
+pub sizes-real : (sound : Bool) (out n : ℕ) → Real (sizesTests sound out n)
+unfolding sizesTests
+sizes-real sound out n = ((λ z. omega arith), ((λ z. omega arith), tt))
+
+pub frame-real : (shape structure : List ℕ) (memory cells out : ℕ) (fits : Bool) → Real (frameTests shape structure memory cells out fits)
+unfolding frameTests openTests
+frame-real shape structure memory cells out fits =
+    ((λ z. omega arith), ((λ z. omega arith), ((λ z. omega arith), ((λ z. omega arith), ((λ z. omega arith), ((λ z. omega arith), ((λ z. omega arith), ((λ z. omega arith), tt))))))))
+
 -- the condition that two counts differ does not hold: they are equal
 same-count : (a b : ℕ) → not (eqb a b) ≡ false → a ≡ b
 same-count a b h = eqb-true a b (not-false (eqb a b) h)
 
 pub feed-accepted : (sound : Bool) (left k w cells : ℕ) → feedCause sound left k w cells ≡ 0 → (sound ≡ true) × (k ≤ left) × (cells ≡ k * w)
-unfolding feedCause
+unfolding feedCause feedTests
 feed-accepted sound left k w cells e =
-    let h = accepted (when (not sound) 6 ∷ when (ltb left k) 7 ∷ when (not (eqb cells (k * w))) 8 ∷ []) ((λ z. omega arith), ((λ z. omega arith), ((λ z. omega arith), tt))) .0 e in
+    let h = accepted (feedTests sound left k w cells) (feed-real sound left k w cells) .0 e in
     (not-false sound (h .0), ltb-false left k (h .1 .0), same-count cells (k * w) (h .1 .1 .0))
 
-pub read-accepted : (sound : Bool) (len places : ℕ) (room : Bool) → readCause sound len places room ≡ 0 → (sound ≡ true) × (len ≡ places) × (room ≡ true)
-unfolding readCause
-read-accepted sound len places room e =
-    let h = accepted (when (not sound) 6 ∷ when (not (eqb len places)) 9 ∷ when (not room) 10 ∷ []) ((λ z. omega arith), ((λ z. omega arith), ((λ z. omega arith), tt))) .0 e in
-    (not-false sound (h .0), same-count len places (h .1 .0), not-false room (h .1 .1 .0))
+pub read-accepted : (sound : Bool) (out wanted : ℕ) (fits : Bool) → readCause sound out wanted fits ≡ 0 → (sound ≡ true) × (out ≡ wanted) × (fits ≡ true)
+unfolding readCause readTests
+read-accepted sound out wanted fits e =
+    let h = accepted (readTests sound out wanted fits) (read-real sound out wanted fits) .0 e in
+    (not-false sound (h .0), same-count out wanted (h .1 .0), not-false fits (h .1 .1 .0))
 
 -- a reading of exact length into a kind that holds n is accepted
-pub accepted-read : (len places : ℕ) (room : Bool) → len ≡ places → room ≡ true → readCause true len places room ≡ 0
-unfolding readCause firstCause
-accepted-read len places room e h = rw (eq-eqb len places e, h)
+pub accepted-read : (out wanted : ℕ) (fits : Bool) → out ≡ wanted → fits ≡ true → readCause true out wanted fits ≡ 0
+unfolding readCause readTests firstCause
+accepted-read out wanted fits e h = rw (eq-eqb out wanted e, h)
 
-pub sizes-accepted : (sound : Bool) (len n : ℕ) → sizesCause sound len n ≡ 0 → (sound ≡ true) × (len ≡ n)
-unfolding sizesCause
-sizes-accepted sound len n e =
-    let h = accepted (when (not sound) 6 ∷ when (not (eqb len n)) 9 ∷ []) ((λ z. omega arith), ((λ z. omega arith), tt)) .0 e in
-    (not-false sound (h .0), same-count len n (h .1 .0))
+pub sizes-accepted : (sound : Bool) (out n : ℕ) → sizesCause sound out n ≡ 0 → (sound ≡ true) × (out ≡ n)
+unfolding sizesCause sizesTests
+sizes-accepted sound out n e =
+    let h = accepted (sizesTests sound out n) (sizes-real sound out n) .0 e in
+    (not-false sound (h .0), same-count out n (h .1 .0))
 
 -- ---- 6 comes of an unsound record alone
 
--- no cause of the list has that number
+-- no condition that holds has that number
 abbrev Without : ℕ → List Test → Type 0
 Without c [] = c ≢ 0
-Without c (t ∷ ts) = (t .number ≢ c) × Without c ts
+Without c (t ∷ ts) = (t .holds ≡ true → t .number ≢ c) × Without c ts
 
 never : (c : ℕ) (ts : List Test) → Without c ts → firstCause ts ≢ c
 unfolding firstCause
 never c [] w e = w (sym e)
-never c (t ∷ ts) w e = go (t .holds) (never c ts (w .1)) e
+never c (t ∷ ts) w e = go (t .holds) refl (never c ts (w .1)) e
   where
-    go : (b : Bool) → firstCause ts ≢ c → cond b (t .number) (firstCause ts) ≢ c
-    go true i q = w .0 q
-    go false i q = i q
+    go : (b : Bool) → t .holds ≡ b → firstCause ts ≢ c → cond b (t .number) (firstCause ts) ≢ c
+    go true h i q = w .0 h q
+    go false h i q = i q
 
 pub feed-six : (left k w cells : ℕ) → feedCause true left k w cells ≢ 6
-unfolding feedCause firstCause
-feed-six left k w cells = never 6 (when (ltb left k) 7 ∷ when (not (eqb cells (k * w))) 8 ∷ []) ((λ z. omega arith), ((λ z. omega arith), (λ z. omega arith)))
+unfolding feedCause feedTests
+feed-six left k w cells = never 6 (feedTests true left k w cells) ((λ h. absurd (true≢false (sym h))), ((λ h z. omega arith), ((λ h z. omega arith), (λ z. omega arith))))
 
-pub read-six : (len places : ℕ) (room : Bool) → readCause true len places room ≢ 6
-unfolding readCause firstCause
-read-six len places room = never 6 (when (not (eqb len places)) 9 ∷ when (not room) 10 ∷ []) ((λ z. omega arith), ((λ z. omega arith), (λ z. omega arith)))
+pub read-six : (out wanted : ℕ) (fits : Bool) → readCause true out wanted fits ≢ 6
+unfolding readCause readTests
+read-six out wanted fits = never 6 (readTests true out wanted fits) ((λ h. absurd (true≢false (sym h))), ((λ h z. omega arith), ((λ h z. omega arith), (λ z. omega arith))))
 
-pub sizes-six : (len n : ℕ) → sizesCause true len n ≢ 6
-unfolding sizesCause firstCause
-sizes-six len n = never 6 (when (not (eqb len n)) 9 ∷ []) ((λ z. omega arith), (λ z. omega arith))
+pub sizes-six : (out n : ℕ) → sizesCause true out n ≢ 6
+unfolding sizesCause sizesTests
+sizes-six out n = never 6 (sizesTests true out n) ((λ h. absurd (true≢false (sym h))), ((λ h z. omega arith), (λ z. omega arith)))

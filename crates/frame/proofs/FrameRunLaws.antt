@@ -22,7 +22,7 @@ use Rattle.frame.specs.Runs.{goesOn, beginsRun, runs, runOf, Run, none, 
 use Rattle.frame.specs.Memory.{perLine}
 use Rattle.frame.proofs.ShapeLaws.{factor-pos, Fits, fits-size}
 use Rattle.frame.proofs.ChainRuleLaws.{nonzero-below}
-use Rattle.frame.proofs.LineLaws.{In, Apart, begun, line-in, line-held, line-length, gapOf, line-apart, line-few, Within, apart-at, in-below, before, before-zero, before-suc, begun-zero, begun-step}
+use Rattle.frame.proofs.LineLaws.{In, Apart, begun, line-in, line-held, line-length, gapOf, line-apart, line-few, Within, apart-at, apart-next, in-below, before, before-zero, before-suc, begun-zero, begun-step}
 use Rattle.frame.proofs.RunLaws.{startOf, nonzero-under, run-below, start-right, runs-counted}
 
 module _ (shape structure : List ℕ) (cells : List Bool) where
@@ -184,29 +184,32 @@ module _ (shape structure : List ℕ) (cells : List Bool) where
 
   -- run r, of line ℓ, as its line lists it
   module _ (ℓ r : ℕ) (h : ℓ < lines shape) (low : S ℓ ≤ r) (high : r < S (suc ℓ)) where
-    i : ℕ
+    abbrev i : ℕ
     i = r - S ℓ
 
     is-i : i < length (R ℓ)
-    unfolding i
     is-i = omega (arith, start-suc ℓ)
 
     listed : run r ≡ getD (R ℓ) i none
-    unfolding i
     listed = let e : r ≡ S ℓ + (r - S ℓ) = omega arith in ap run e ∙ run-at ℓ i h is-i
 
-    -- it holds a cell, and ends by the width
+    -- it covers a column, and ends by the width
     pub run-within : Within w (run r)
     run-within = subst (Within w) (sym listed) (within ℓ i is-i)
 
-    -- it holds nonzero cells alone, and they are of no other run
+    -- it covers nonzero cells alone, and they are of no other run
     pub run-cells : (x : ℕ) → Covers (run r) x → (x < w) × (nonzero cells (ℓ * w + x) ≡ true) × (of (ℓ * w + x) ≡ r)
-    unfolding i
     run-cells x k =
         let z : In (R ℓ) i x = subst (λ (u : Run). Covers u x) listed k in
         (column ℓ i x z, in-nonzero ℓ i x z, in-run ℓ i x z ∙ omega arith)
 
-  -- of two runs of a line that hold one column, both are the same
+  -- a run ends before the next of its line starts, and with the left byte nonzero a cell lies between: the stretches are maximal
+  pub run-order : (ℓ r s : ℕ) → ℓ < lines shape → S ℓ ≤ r → r < s → s < S (suc ℓ) → run r .end + gapOf left ≤ run s .start
+  run-order ℓ r s h low l high =
+      rw (listed ℓ r h low (omega arith), listed ℓ s h (omega arith) high)
+      (apart-next (R ℓ) (gapOf left) 0 w (r - S ℓ) (s - S ℓ) (runs-apart ℓ) (omega arith) (omega (arith, start-suc ℓ)))
+
+  -- of two runs of a line that cover one column, both are the same
   pub run-one : (ℓ r s x : ℕ) → ℓ < lines shape → S ℓ ≤ r → r < S (suc ℓ) → S ℓ ≤ s → s < S (suc ℓ)
       → Covers (run r) x → Covers (run s) x → r ≡ s
   run-one ℓ r s x h lr hr ls hs a b = sym (run-cells ℓ r h lr hr x a .2) ∙ run-cells ℓ s h ls hs x b .2

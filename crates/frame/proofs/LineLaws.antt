@@ -207,10 +207,6 @@ unfolding lineRuns
 line-held true l x h = held-off l 0 0 x x (sym (zero-add x)) h
 line-held false l x h = held-singles l 0 x x (sym (zero-add x)) h
 
--- and in no other
-pub line-one : (left : Bool) (l : List Bool) (i j x : ℕ) → In (lineRuns left l) i x → In (lineRuns left l) j x → i ≡ j
-line-one left l i j x h k = omega (arith, line-in left l i x h .1, line-in left l j x k .1)
-
 pub line-length : (left : Bool) (l : List Bool) (n : ℕ) → length l ≤ n → length (lineRuns left l) ≡ begun left false l n
 unfolding lineRuns
 line-length true l n h = length-off l 0 0 n h

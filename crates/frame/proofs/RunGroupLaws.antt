@@ -6,7 +6,7 @@ use mathlib.Core.List.{List, [], append-nil}
 use Prim.Native.Nat.{ℕ, _+_, _<_}
 use native.Mathlib.Nat.{zero-add}
 use native.Mathlib.Omega.{arith}
-use Rattle.groups.specs.Groups.{Edge, Joined, groups, joins, visit}
+use Rattle.groups.specs.Groups.{Chain, Edge, Joined, groups, joins, visit}
 use Rattle.groups.specs.Numbers.{number}
 use Rattle.groups.proofs.ChainLaws.{chain-map}
 use Rattle.groups.proofs.RepLaws.{Ends}
@@ -16,7 +16,7 @@ use Rattle.frame.specs.ChainRule.{nonzero, groupCount, label}
 use Rattle.frame.specs.Runs.{runs, runOf, runsBefore, frameRun}
 use Rattle.frame.specs.Touches.{frameTouches}
 use Rattle.frame.proofs.ShapeLaws.{Fits, fits-size}
-use Rattle.frame.proofs.RunLaws.{runs-count, runs-label, runs-joins}
+use Rattle.frame.proofs.RunLaws.{RunStep, runs-count, runs-label, runs-joins}
 use Rattle.frame.proofs.FrameRunLaws.{start-le, runs-all}
 use Rattle.frame.proofs.TouchLaws.{touches-below}
 use Rattle.frame.proofs.LinkLaws.{linked-steps, steps-linked}
@@ -41,20 +41,23 @@ module _ (shape structure : List ℕ) (cells : List Bool) (n : ℕ) (F : Fits sh
 
   -- for every list that joins what the touches join, in any order and with repeats
   module _ (es : List Edge) (into : (a b : ℕ) → Joined es a b → Joined T a b) (onto : (a b : ℕ) → Joined T a b → Joined es a b) where
+    there : (r s : ℕ) → Chain (Joined es) r s → Chain (RunStep shape structure cells) r s
+    there r s h = linked-steps shape structure cells n F r s (chain-map into h)
+
+    back : (r s : ℕ) → Chain (RunStep shape structure cells) r s → Chain (Joined es) r s
+    back r s h = chain-map onto (steps-linked shape structure cells n F r s h)
+
     -- n of the cells is the number of groups of runs
     pub groups-runs : groups (λ r. true) es N ≡ groupCount shape structure cells
-    groups-runs =
-        runs-count shape structure cells (fits-size shape n cells F) es (λ r s h. linked-steps shape structure cells n F r s (chain-map into h)) (λ r s h. chain-map onto (steps-linked shape structure cells n F r s h))
+    groups-runs = runs-count shape structure cells (fits-size shape n cells F) es there back
 
     -- a cell's number is its run's
     pub number-runs : (p : ℕ) → p < size shape → cond (nonzero cells p) (number (λ r. true) es (of p)) 0 ≡ label shape structure cells p
-    number-runs =
-        runs-label shape structure cells (fits-size shape n cells F) es (λ r s h. linked-steps shape structure cells n F r s (chain-map into h)) (λ r s h. chain-map onto (steps-linked shape structure cells n F r s h))
+    number-runs = runs-label shape structure cells (fits-size shape n cells F) es there back
 
     -- runs = n + joins
     pub joins-runs : Ends (λ r. r < N) es → groupCount shape structure cells + joins es ≡ N
-    joins-runs =
-        runs-joins shape structure cells (fits-size shape n cells F) es (λ r s h. linked-steps shape structure cells n F r s (chain-map into h)) (λ r s h. chain-map onto (steps-linked shape structure cells n F r s h))
+    joins-runs = runs-joins shape structure cells (fits-size shape n cells F) es there back
 
   -- ---- the touches, visited one after the other
 

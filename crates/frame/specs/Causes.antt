@@ -52,18 +52,30 @@ unfoldable pub openCause : List ℕ → List ℕ → ℕ → ℕ
 openCause shape structure memory = firstCause (openTests shape structure memory)
 
 -- feed: 6, 7, 8. Whether the record is sound, the lines left, k, w, and the count of cells
+unfoldable pub feedTests : Bool → ℕ → ℕ → ℕ → ℕ → List Test
+feedTests sound left k w cells = when (not sound) 6 ∷ when (ltb left k) 7 ∷ when (not (eqb cells (k * w))) 8 ∷ []
+
 unfoldable pub feedCause : Bool → ℕ → ℕ → ℕ → ℕ → ℕ
-feedCause sound left k w cells = firstCause (when (not sound) 6 ∷ when (ltb left k) 7 ∷ when (not (eqb cells (k * w))) 8 ∷ [])
+feedCause sound left k w cells = firstCause (feedTests sound left k w cells)
 
 -- reading: 6, 9, 10. Whether the record is sound, the output's length, L × w, and whether the kind holds n
+unfoldable pub readTests : Bool → ℕ → ℕ → Bool → List Test
+readTests sound out wanted fits = when (not sound) 6 ∷ when (not (eqb out wanted)) 9 ∷ when (not fits) 10 ∷ []
+
 unfoldable pub readCause : Bool → ℕ → ℕ → Bool → ℕ
-readCause sound length size holds = firstCause (when (not sound) 6 ∷ when (not (eqb length size)) 9 ∷ when (not holds) 10 ∷ [])
+readCause sound out wanted fits = firstCause (readTests sound out wanted fits)
 
 -- sizes: 6, 9. Whether the record is sound, the slice's length, and n
+unfoldable pub sizesTests : Bool → ℕ → ℕ → List Test
+sizesTests sound out n = when (not sound) 6 ∷ when (not (eqb out n)) 9 ∷ []
+
 unfoldable pub sizesCause : Bool → ℕ → ℕ → ℕ
-sizesCause sound length n = firstCause (when (not sound) 6 ∷ when (not (eqb length n)) 9 ∷ [])
+sizesCause sound out n = firstCause (sizesTests sound out n)
 
 -- whole frame: 1 to 5, 8, 9, 10. The counts of words, of cells and of output places, and whether the kind holds n
+unfoldable pub frameTests : List ℕ → List ℕ → ℕ → ℕ → ℕ → Bool → List Test
+frameTests shape structure memory cells out fits =
+    openTests shape structure memory ++ when (not (eqb cells (size shape))) 8 ∷ when (not (eqb out (size shape))) 9 ∷ when (not fits) 10 ∷ []
+
 unfoldable pub frameCause : List ℕ → List ℕ → ℕ → ℕ → ℕ → Bool → ℕ
-frameCause shape structure memory cells out holds =
-    firstCause (openTests shape structure memory ++ when (not (eqb cells (size shape))) 8 ∷ when (not (eqb out (size shape))) 9 ∷ when (not holds) 10 ∷ [])
+frameCause shape structure memory cells out fits = firstCause (frameTests shape structure memory cells out fits)
