@@ -1,14 +1,18 @@
 -- Causes: a call is accepted exactly when no condition holds, and 6 comes of an unsound record alone.
 -- Assumes nothing.
-use mathlib.Core.Path.{_≡_, refl, sym, _∙_}
+use mathlib.Core.Path.{_≡_, refl, sym, ap, _∙_}
 use mathlib.Core.Logic.{_↔_, _≢_}
-use mathlib.Core.Bool.{Bool, true, false, not, cond, true≢false}
-use mathlib.Core.List.{List, [], _∷_}
-use Prim.Native.Nat.{ℕ, _*_, _≤_}
+use mathlib.Core.Bool.{Bool, true, false, not, cond, _||_, true≢false}
+use mathlib.Core.List.{List, [], _∷_, _++_}
+use Prim.Native.Nat.{ℕ, suc, _*_, _^_, _≤_, _<_}
 use native.Mathlib.Omega.{arith}
-use borrow.Author.Tests.{eqb-true, eq-eqb, ltb-false, not-false}
-use lib.Dec.{eqb}
-use Rattle.frame.specs.Causes.{Test, firstCause, openTests, feedTests, feedCause, readTests, readCause, sizesTests, sizesCause, frameTests}
+use borrow.Author.Tests.{eqb-true, eqb-false, eq-eqb, ltb-false, le-ltb, not-false}
+use lib.Dec.{eqb, ltb}
+use lib.ListN.{length}
+use Rattle.groups.proofs.BoolLaws.{or-left}
+use Rattle.frame.specs.Shape.{size, leading}
+use Rattle.frame.specs.Memory.{wordsNeeded}
+use Rattle.frame.specs.Causes.{badRank, hasZero, tooLarge, Test, when, firstCause, openTests, openCause, feedTests, feedCause, readTests, readCause, sizesTests, sizesCause, frameTests, frameCause}
 
 -- ---- accepted
 
@@ -57,11 +61,39 @@ frame-real shape structure memory cells out fits =
 same-count : (a b : ℕ) → not (eqb a b) ≡ false → a ≡ b
 same-count a b h = eqb-true a b (not-false (eqb a b) h)
 
+pub rank-right : (shape : List ℕ) → badRank shape ≡ false → (0 < length shape) × (length shape ≤ 4)
+unfolding badRank
+rank-right shape h = go (eqb (length shape) 0) refl
+  where
+    go : (b : Bool) → eqb (length shape) 0 ≡ b → (0 < length shape) × (length shape ≤ 4)
+    go true e = absurd (true≢false (sym (or-left (eqb (length shape) 0) (ltb 4 (length shape)) e) ∙ h))
+    go false e =
+        let ne = eqb-false (length shape) 0 e in
+        (omega arith, ltb-false 4 (length shape) (sym (ap (λ (t : Bool). t || ltb 4 (length shape)) e) ∙ h))
+
+-- what an accepted opening was given
+pub record Allowed (shape structure : List ℕ) (memory : ℕ) : Type 0 where
+  pub ranked : badRank shape ≡ false
+  pub bytes : length structure ≡ 3 ^ length shape
+  pub dimensions : hasZero (leading shape) ≡ false
+  pub limits : tooLarge shape ≡ false
+  pub enough : wordsNeeded shape structure ≤ memory
+
+pub open-accepted : (shape structure : List ℕ) (memory : ℕ) → openCause shape structure memory ≡ 0 → Allowed shape structure memory
+unfolding openCause openTests
+open-accepted shape structure memory e =
+    let h = accepted (openTests shape structure memory) (open-real shape structure memory) .0 e in
+    record { ranked = h .0; bytes = same-count (length structure) (3 ^ length shape) (h .1 .0); dimensions = h .1 .1 .0; limits = h .1 .1 .1 .0; enough = ltb-false memory (wordsNeeded shape structure) (h .1 .1 .1 .1 .0) }
+
 pub feed-accepted : (sound : Bool) (left k w cells : ℕ) → feedCause sound left k w cells ≡ 0 → (sound ≡ true) × (k ≤ left) × (cells ≡ k * w)
 unfolding feedCause feedTests
 feed-accepted sound left k w cells e =
     let h = accepted (feedTests sound left k w cells) (feed-real sound left k w cells) .0 e in
     (not-false sound (h .0), ltb-false left k (h .1 .0), same-count cells (k * w) (h .1 .1 .0))
+
+pub accepted-feed : (left k w cells : ℕ) → k ≤ left → cells ≡ k * w → feedCause true left k w cells ≡ 0
+unfolding feedCause feedTests firstCause
+accepted-feed left k w cells h e = rw (le-ltb left k h, eq-eqb cells (k * w) e)
 
 pub read-accepted : (sound : Bool) (out wanted : ℕ) (fits : Bool) → readCause sound out wanted fits ≡ 0 → (sound ≡ true) × (out ≡ wanted) × (fits ≡ true)
 unfolding readCause readTests
@@ -79,6 +111,42 @@ unfolding sizesCause sizesTests
 sizes-accepted sound out n e =
     let h = accepted (sizesTests sound out n) (sizes-real sound out n) .0 e in
     (not-false sound (h .0), same-count out n (h .1 .0))
+
+pub accepted-sizes : (out n : ℕ) → out ≡ n → sizesCause true out n ≡ 0
+unfolding sizesCause sizesTests firstCause
+accepted-sizes out n e = rw (eq-eqb out n e)
+
+-- what is known of a whole frame before anything is written: it opens, and its cells and its output are L × w
+pub frame-accepted : (shape structure : List ℕ) (memory cells out : ℕ) → frameCause shape structure memory cells out true ≡ 0 → (openCause shape structure memory ≡ 0) × (cells ≡ size shape) × (out ≡ size shape)
+unfolding frameCause frameTests openCause openTests
+frame-accepted shape structure memory cells out e =
+    let h = accepted (frameTests shape structure memory cells out true) (frame-real shape structure memory cells out true) .0 e in (
+      accepted (openTests shape structure memory) (open-real shape structure memory) .1 (h .0, (h .1 .0, (h .1 .1 .0, (h .1 .1 .1 .0, (h .1 .1 .1 .1 .0, tt))))),
+      same-count cells (size shape) (h .1 .1 .1 .1 .1 .0),
+      same-count out (size shape) (h .1 .1 .1 .1 .1 .1 .0),
+    )
+
+-- and then its cause is a reading's
+pub frame-reads : (shape structure : List ℕ) (memory cells out : ℕ) (fits : Bool) → frameCause shape structure memory cells out true ≡ 0 → frameCause shape structure memory cells out fits ≡ readCause true out (size shape) fits
+unfolding frameCause frameTests openTests firstCause readCause readTests
+frame-reads shape structure memory cells out fits e =
+    let h = accepted (frameTests shape structure memory cells out true) (frame-real shape structure memory cells out true) .0 e in
+    rw (h .0, h .1 .0, h .1 .1 .0, h .1 .1 .1 .0, h .1 .1 .1 .1 .0, h .1 .1 .1 .1 .1 .0) refl
+
+-- a cause that is known before then is the cause
+first-known : (ts us vs : List Test) (c : ℕ) → firstCause us ≡ 0 → firstCause (ts ++ us) ≡ suc c → firstCause (ts ++ vs) ≡ suc c
+unfolding firstCause
+first-known [] us vs c z e = absurd (omega arith)
+first-known (t ∷ ts) us vs c z e = go (t .holds) e (first-known ts us vs c z)
+  where
+    go : (b : Bool) → cond b (t .number) (firstCause (ts ++ us)) ≡ suc c → (firstCause (ts ++ us) ≡ suc c → firstCause (ts ++ vs) ≡ suc c) → cond b (t .number) (firstCause (ts ++ vs)) ≡ suc c
+    go true e i = e
+    go false e i = i e
+
+pub frame-known : (shape structure : List ℕ) (memory cells out c : ℕ) (fits : Bool) → frameCause shape structure memory cells out true ≡ suc c → frameCause shape structure memory cells out fits ≡ suc c
+unfolding frameCause frameTests openTests
+frame-known shape structure memory cells out c fits e =
+    first-known (openTests shape structure memory ++ when (not (eqb cells (size shape))) 8 ∷ when (not (eqb out (size shape))) 9 ∷ []) (when (not true) 10 ∷ []) (when (not fits) 10 ∷ []) c (unfold firstCause in refl) e
 
 -- ---- 6 comes of an unsound record alone
 

@@ -23,7 +23,7 @@ use Rattle.frame.specs.ChainRule.{nonzero, Leads, Step, Group, Labelled,
 
 -- ---- tests
 
-any-found : (f : ℕ → Bool) (n : ℕ) → any f n ≡ true → (k : ℕ) × (k < n) × (f k ≡ true)
+pub any-found : (f : ℕ → Bool) (n : ℕ) → any f n ≡ true → (k : ℕ) × (k < n) × (f k ≡ true)
 unfolding any
 any-found f zero h = absurd (true≢false (sym h))
 any-found f (suc n) h = go (any-found f n) (or-cases (f n) (any f n) h)
@@ -32,7 +32,7 @@ any-found f (suc n) h = go (any-found f n) (or-cases (f n) (any f n) h)
     go below (inl e) = (n, le-refl (suc n), e)
     go below (inr e) = let r = below e in (r .0, omega arith, r .2)
 
-any-at : (f : ℕ → Bool) (n k : ℕ) → k < n → f k ≡ true → any f n ≡ true
+pub any-at : (f : ℕ → Bool) (n k : ℕ) → k < n → f k ≡ true → any f n ≡ true
 unfolding any
 any-at f zero k h e = absurd (not-suc-le-zero h)
 any-at f (suc n) k h e = go (eqb k n) refl (any-at f n k)

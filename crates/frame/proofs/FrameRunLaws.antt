@@ -18,11 +18,11 @@ use Rattle.groups.proofs.GatherLaws.{gather-snoc, gather-split}
 use Rattle.frame.specs.Shape.{size, width, lines}
 use Rattle.frame.specs.Structure.{leftOn}
 use Rattle.frame.specs.ChainRule.{nonzero}
-use Rattle.frame.specs.Runs.{goesOn, beginsRun, runs, runOf, Run, none, Covers, lineOf, frameRuns, allRuns, runsBefore, frameRun}
+use Rattle.frame.specs.Runs.{goesOn, beginsRun, runs, runOf, Run, none, Covers, gapOf, lineOf, frameRuns, allRuns, runsBefore, frameRun}
 use Rattle.frame.specs.Memory.{perLine}
 use Rattle.frame.proofs.ShapeLaws.{factor-pos, Fits, fits-size}
 use Rattle.frame.proofs.ChainRuleLaws.{nonzero-below}
-use Rattle.frame.proofs.LineLaws.{In, Apart, begun, line-in, line-held, line-length, gapOf, line-apart, line-few, Within, apart-at, apart-next, in-below, before, before-zero, before-suc, begun-zero, begun-step}
+use Rattle.frame.proofs.LineLaws.{In, Apart, begun, line-in, line-held, line-length, line-apart, line-few, Within, apart-at, apart-next, in-below, before, before-zero, before-suc, begun-zero, begun-step}
 use Rattle.frame.proofs.RunLaws.{startOf, nonzero-under, run-below, start-right, runs-counted}
 
 module _ (shape structure : List ℕ) (cells : List Bool) where
@@ -102,11 +102,11 @@ module _ (shape structure : List ℕ) (cells : List Bool) where
 
   -- ---- a line's cells
 
-  nonzero-line : (ℓ x : ℕ) → x < w → getD (line ℓ) x false ≡ nonzero cells (ℓ * w + x)
+  pub nonzero-line : (ℓ x : ℕ) → x < w → getD (line ℓ) x false ≡ nonzero cells (ℓ * w + x)
   unfolding lineOf nonzero
   nonzero-line ℓ x h = getD-take w (drop (ℓ * w) cells) x false h ∙ getD-drop (ℓ * w) cells x false
 
-  short : (ℓ : ℕ) → length (line ℓ) ≤ w
+  pub short : (ℓ : ℕ) → length (line ℓ) ≤ w
   unfolding lineOf
   short ℓ = omega (arith, length-take w (drop (ℓ * w) cells))
 
@@ -158,6 +158,10 @@ module _ (shape structure : List ℕ) (cells : List Bool) where
   pub runs-few : (ℓ : ℕ) → length (R ℓ) ≤ perLine shape structure
   unfolding frameRuns perLine
   runs-few ℓ = line-few left (line ℓ) w (short ℓ)
+
+  pub starts-few : (ℓ : ℕ) → S ℓ ≤ ℓ * perLine shape structure
+  starts-few zero = rw start-zero (omega arith)
+  starts-few (suc ℓ) = let i = starts-few ℓ in omega (arith, start-suc ℓ, runs-few ℓ, suc-mul ℓ (perLine shape structure))
 
   within : (ℓ i : ℕ) → i < length (R ℓ) → Within w (getD (R ℓ) i none)
   within ℓ i h = apart-at (R ℓ) (gapOf left) 0 w i (runs-apart ℓ) h

@@ -4,12 +4,12 @@ use mathlib.Core.Path.{_≡_, sym, ap, ap₂, _∙_}
 use mathlib.Core.Bool.{Bool}
 use mathlib.Core.List.{List, [], _++_}
 use Prim.Native.Nat.{ℕ, suc, _+_, _-_, _*_, _≤_, _<_}
-use native.Mathlib.Nat.{le-refl, zero-add, suc-mul, add-mul, mul-le-mul-right}
+use native.Mathlib.Nat.{le-refl, zero-add, add-zero, suc-mul, add-mul, mul-le-mul-right}
 use native.Mathlib.Omega.{arith}
-use lib.ListN.{length, getD, take, drop, length-drop, List·getD-append}
-use lib.Seq.{take-append-le, drop-append-le, drop-append-add}
+use lib.ListN.{length, getD, take, drop, length-append, length-drop, List·getD-append}
+use lib.Seq.{take-append-le, drop-append-le, drop-append-add, getD-append-add}
 use Rattle.groups.specs.Groups.{Edge, gather, rep, joins, visit}
-use Rattle.groups.proofs.GatherLaws.{gather-split, gather-same}
+use Rattle.groups.proofs.GatherLaws.{gather-split, gather-same, gather-shift}
 use Rattle.groups.proofs.VisitLaws.{visit-append, rep-over, joins-over}
 use Rattle.frame.specs.Shape.{width, leading, lines}
 use Rattle.frame.specs.Structure.{leftOn}
@@ -99,17 +99,40 @@ module _ (shape structure : List ℕ) (cells more : List Bool) (n : ℕ) (F : Fi
       gather-split R′ 0 n k
       ∙ ap₂ (λ (x : List Run) (m : ℕ). x ++ gather R′ m k) (all-stay n (le-refl n)) (zero-add n)
 
+  -- the new lines' runs are those of the new cells alone
+  gather-new : (k : ℕ) → gather R′ n k ≡ allRuns shape structure more k
+  unfolding allRuns frameRuns
+  gather-new k =
+      ap (λ (m : ℕ). gather R′ m k) (sym (add-zero n))
+      ∙ gather-shift R′ (frameRuns shape structure more) n runs-new 0 k
+
+  pub starts-new : (k : ℕ) → S′ (n + k) ≡ S n + runsBefore shape structure more k
+  unfolding runsBefore
+  starts-new k =
+      ap length (runs-grow k)
+      ∙ length-append (allRuns shape structure cells n) (gather R′ n k)
+      ∙ ap (λ (rs : List Run). length (allRuns shape structure cells n) + length rs) (gather-new k)
+
+  pub run-new : (k r : ℕ) → n + k ≤ lines shape → r < runsBefore shape structure more k → run′ (S n + r) ≡ frameRun shape structure more r
+  unfolding runsBefore
+  run-new k r h l =
+      let less : S n + r < S′ (n + k) = omega (arith, starts-new k) in
+      run-first shape structure (cells ++ more) (n + k) (S n + r) h less
+      ∙ ap (λ (rs : List Run). getD rs (S n + r) none) (runs-grow k ∙ ap (λ (rs : List Run). allRuns shape structure cells n ++ rs) (gather-new k))
+      ∙ getD-append-add (allRuns shape structure cells n) (allRuns shape structure more k) r none
+      ∙ sym (run-first shape structure more k r (omega arith) l)
+
   -- ---- touches
 
-  pub touches-stay : T′ 0 n ≡ T 0 n
-  touches-stay =
+  pub touches-stay : (a m : ℕ) → a + m ≤ n → T′ a m ≡ T a m
+  touches-stay a m h =
       touches-same (leading shape) structure S′ S run′ run n starts-stay (start-le shape structure (cells ++ more))
-      (λ r h. run-stays r (rw (starts-stay n (le-refl n)) at h)) (F .below) 0 n (omega arith)
+      (λ r l. run-stays r (rw (starts-stay n (le-refl n)) at l)) (F .below) a m h
 
   pub touches-grow : (k : ℕ) → T′ 0 (n + k) ≡ T 0 n ++ T′ n k
   touches-grow k =
       touches-split (leading shape) structure S′ run′ 0 n k
-      ∙ ap₂ (λ (x : List Edge) (m : ℕ). x ++ T′ m k) touches-stay (zero-add n)
+      ∙ ap₂ (λ (x : List Edge) (m : ℕ). x ++ T′ m k) (touches-stay 0 n (omega arith)) (zero-add n)
 
   -- ---- groups
 

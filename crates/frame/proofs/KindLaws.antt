@@ -1,4 +1,4 @@
--- Kinds: the largest number of each, and which f32 is zero.
+-- Kinds: the largest number of each, which f32 is zero, and a number back from what is written.
 -- Assumes nothing.
 use mathlib.Core.Path.{_≡_, refl, sym, ap, _∙_}
 use mathlib.Core.Bool.{Bool, true, false, not, _||_, Bool·beq}
@@ -10,7 +10,7 @@ use lib.Dec.{eqb}
 use lib.IntN.{ℤ}
 use lib.Ieee.{Float, nan, inf, fin, up, down, level, eq}
 use lib.Ieee.Fits.{up-pos, down-pos}
-use Rattle.frame.specs.Kinds.{nzF, Number, u8, u16, u32, largest}
+use Rattle.frame.specs.Kinds.{nzF, Number, u8, u16, u32, largest, write, value}
 
 -- the largest number of a kind is the largest of that many bits
 pub bits : Number → ℕ
@@ -45,3 +45,7 @@ nz-float (fin t m e) s d = ap not (go m)
     go (suc k) =
         let some = mul-pos (mul-pos (zero-lt-suc k) (up-pos e)) (down-pos d) in
         rw (ne-eqb (suc k * up e * down d) (0 * up d * down e) (λ z. omega (arith, right))) (ne-eqb (suc k) 0 (λ z. omega arith))
+
+-- a number is read back from what is written for it
+pub value-write : (kind : Number) (n : ℕ) → value kind (write kind n) ≡ n
+value-write kind n = refl

@@ -7,7 +7,7 @@ use Prim.Native.Nat.{ℕ, zero, suc, _+_, _*_, _/_, _≤_, _<_}
 use native.Mathlib.Nat.{le-refl, not-suc-le-zero, zero-add}
 use native.Mathlib.Omega.{arith}
 use lib.ListN.{length, getD}
-use Rattle.frame.specs.Runs.{Run, none, Covers, stretches, singles, lineRuns}
+use Rattle.frame.specs.Runs.{Run, none, Covers, stretches, singles, lineRuns, gapOf}
 
 -- run i of the list holds column x
 abbrev pub In : List Run → ℕ → ℕ → Type 0
@@ -211,9 +211,6 @@ pub line-length : (left : Bool) (l : List Bool) (n : ℕ) → length l ≤ n →
 unfolding lineRuns
 line-length true l n h = length-off l 0 0 n h
 line-length false l n h = length-singles l false 0 n h
-
-pub gapOf : Bool → ℕ
-gapOf left = cond left 1 0
 
 -- in order; a run that the next one touches only where the left byte is zero
 pub line-apart : (left : Bool) (l : List Bool) (w : ℕ) → length l ≤ w → Apart (gapOf left) 0 w (lineRuns left l)

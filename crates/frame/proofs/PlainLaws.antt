@@ -1,22 +1,63 @@
 -- The plain session: its lines are lines of the frame, runs = n + joins, 6 never comes, and lines fed in pieces are lines fed.
 -- Assumes nothing.
-use mathlib.Core.Path.{_≡_, refl, sym, ap₂, _∙_}
+use mathlib.Core.Path.{_≡_, refl, sym, ap₂, _∙_, subst}
 use mathlib.Core.Logic.{_≢_}
 use mathlib.Core.Bool.{Bool, true, false, cond}
 use mathlib.Core.List.{List, [], _∷_, _++_, append-assoc, append-nil}
-use Prim.Native.Nat.{ℕ, _+_, _-_, _*_, _≤_, _<_}
+use Prim.Native.Nat.{ℕ, zero, suc, _+_, _-_, _*_, _≤_, _<_}
 use native.Mathlib.Nat.{add-mul, add-assoc, add-zero, zero-mul}
 use native.Mathlib.Omega.{arith}
-use borrow.Author.Tests.{eqb-true}
+use borrow.Author.Tests.{eqb-true, ne-eqb}
 use lib.Dec.{eqb}
 use lib.ListN.{length, length-append}
 use Rattle.frame.specs.Shape.{size, width, lines}
 use Rattle.frame.specs.Runs.{runs}
-use Rattle.frame.specs.Kinds.{flags, holds}
-use Rattle.frame.specs.Plain.{Call, feed, read, sizes, State, opened, feeds, groupsOf, figures, cause, next, after}
+use Rattle.frame.specs.Kinds.{Cells, flags, holds}
+use Rattle.frame.specs.Plain.{Call, feed, read, sizes, Answer, refused, unless, kept, State, opened, feeds, groupsOf, figures, cause, next, after}
 use Rattle.frame.proofs.ShapeLaws.{Fits}
 use Rattle.frame.proofs.RunLaws.{count-runs}
 use Rattle.frame.proofs.CauseLaws.{feed-accepted, feed-six, read-six, sizes-six}
+
+-- ---- with a cause, and without
+
+pub unless-same : (c d : ℕ) (a b : Answer) → c ≡ d → (c ≡ 0 → a ≡ b) → unless c a ≡ unless d b
+unless-same c d a b e h = subst (λ (x : ℕ). unless c a ≡ unless x b) e (go c h)
+  where
+    go : (c : ℕ) → (c ≡ 0 → a ≡ b) → unless c a ≡ unless c b
+    go zero h = unfold unless in h refl
+    go (suc c) h = unfold unless in refl
+
+pub unless-none : (c : ℕ) (a : Answer) → c ≡ 0 → unless c a ≡ a
+unfolding unless
+unless-none c a e = rw e refl
+
+pub unless-some : (c d : ℕ) (a : Answer) → c ≡ suc d → unless c a ≡ refused (suc d)
+unfolding unless
+unless-some c d a e = rw e refl
+
+-- an answer is that of the accepted call, or a refusal
+pub unless-cases : (Q : Answer → Type 0) (c : ℕ) (a : Answer) → (c ≡ 0 → Q a) → ((d : ℕ) → c ≡ suc d → Q (refused (suc d))) → Q (unless c a)
+unfolding unless
+unless-cases Q zero a goes stays = goes refl
+unless-cases Q (suc c) a goes stays = stays c refl
+
+module _ {A : Type 0} (old new : A) where
+  pub kept-new : (c : ℕ) → c ≡ 0 → kept c old new ≡ new
+  unfolding kept
+  kept-new c e = rw e refl
+
+  pub kept-old : (c d : ℕ) → c ≡ suc d → kept c old new ≡ old
+  unfolding kept
+  kept-old c d e = rw e refl
+
+pub kept-same : {A : Type 0} (c d : ℕ) (old a b : A) → c ≡ d → (c ≡ 0 → a ≡ b) → kept c old a ≡ kept d old b
+kept-same {A} c d old a b e h = subst (λ (x : ℕ). kept c old a ≡ kept x old b) e (go c h)
+  where
+    go : (c : ℕ) → (c ≡ 0 → a ≡ b) → kept c old a ≡ kept c old b
+    go zero h = unfold kept in h refl
+    go (suc c) h = unfold kept in refl
+
+-- ---- the session
 
 module _ (shape : List ℕ) where
   abbrev pub FitsIn : State → Type 0
@@ -50,6 +91,16 @@ module _ (shape : List ℕ) where
   unfolding after
   after-fits [] p F = F
   after-fits (c ∷ cs) p F = after-fits cs (next shape p c) (next-fits p c F)
+
+  -- ---- the next state
+
+  pub next-feeds : (p : State) (k : ℕ) (cells : Cells) → cause shape p (feed k cells) ≡ 0 → next shape p (feed k cells) ≡ feeds p k (flags cells)
+  unfolding next
+  next-feeds p k cells e = rw e refl
+
+  pub next-stays : (p : State) (k : ℕ) (cells : Cells) (c : ℕ) → cause shape p (feed k cells) ≡ suc c → next shape p (feed k cells) ≡ p
+  unfolding next
+  next-stays p k cells c e = rw (e, ne-eqb (suc c) 0 (λ q. omega arith)) refl
 
   -- ---- figures
 

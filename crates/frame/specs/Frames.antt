@@ -8,7 +8,7 @@ use lib.Ieee.{nan, inf, fin}
 use lib.ListN.{replicate}
 use Rattle.frame.specs.Shape.{size, leading, lines}
 use Rattle.frame.specs.Runs.{runs}
-use Rattle.frame.specs.Kinds.{u8s, u16s, i16s, f32s, Number, u8, u16, u32}
+use Rattle.frame.specs.Kinds.{u8s, u16s, i16s, f32s, Number, u8, u16, u32, Value}
 use Rattle.frame.specs.Plain.{Call, feed, read, sizes, fed, counted, refused, nothing, numbers, counts, Answered, written, session}
 
 -- a session: shape, structure, count of words and calls, with what is answered and written
@@ -41,7 +41,7 @@ o k = replicate k 9
 abbrev fedAll : ℕ → ℕ → ℕ → Answered
 fedAll l r j = record { said = fed l (record { runs = r; joins = j }); written = nothing }
 
-abbrev got : (kind : Number) → ℕ → ℕ → ℕ → List ℕ → Answered
+abbrev got : (kind : Number) → ℕ → ℕ → ℕ → List (Value kind) → Answered
 got kind g r j ns = record { said = counted g (record { runs = r; joins = j }); written = numbers kind ns }
 
 abbrev sized : ℕ → ℕ → ℕ → List ℕ → Answered
@@ -50,7 +50,7 @@ sized g r j ns = record { said = counted g (record { runs = r; joins = j }); wri
 abbrev no : ℕ → Answered
 no c = record { said = refused c; written = nothing }
 
-abbrev noNumbers : Number → ℕ → List ℕ → Answered
+abbrev noNumbers : (kind : Number) → ℕ → List (Value kind) → Answered
 noNumbers kind c ns = record { said = refused c; written = numbers kind ns }
 
 abbrev noCounts : ℕ → List ℕ → Answered

@@ -55,3 +55,7 @@ Value kind = ℕ
 
 abbrev pub write : (kind : Number) → ℕ → Value kind
 write kind n = n
+
+-- and the number back
+abbrev pub value : (kind : Number) → Value kind → ℕ
+value kind v = v

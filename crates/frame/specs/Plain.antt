@@ -45,12 +45,12 @@ pub record Answered : Type 0 where
   pub said : Answer
   pub written : Written
 
--- with a cause: its number is answered, and an output holds what it held
+-- with a cause: its number is answered, and what stood is kept
 unfoldable pub unless : ℕ → Answer → Answer
 unless zero a = a
 unless (suc c) a = refused (suc c)
 
-unfoldable pub kept : {A : Type 0} → ℕ → List A → List A → List A
+unfoldable pub kept : {A : Type 0} → ℕ → A → A → A
 kept zero old new = new
 kept (suc c) old new = old
 
@@ -95,6 +95,10 @@ module _ (shape : List ℕ) where
   written p (read kind out) = numbers kind (kept (cause p (read kind out)) out (map (write kind) (labels shape (p .structure) (p .cells))))
   written p (sizes out) = counts (kept (cause p (sizes out)) out (sizesOf shape (p .structure) (p .cells)))
 
+  -- so of a call
+  abbrev pub answered : State → Call → Answered
+  answered p c = record { said = unless (cause p c) (answer p c); written = written p c }
+
   -- refusals and readings change nothing
   unfoldable pub next : State → Call → State
   next p (feed k cells) = cond (eqb (cause p (feed k cells)) 0) (feeds p k (flags cells)) p
@@ -104,7 +108,7 @@ module _ (shape : List ℕ) where
   -- the answers to a list of calls, and the session after it
   unfoldable pub plain : State → List Call → List Answered
   plain p [] = []
-  plain p (c ∷ cs) = record { said = unless (cause p c) (answer p c); written = written p c } ∷ plain (next p c) cs
+  plain p (c ∷ cs) = answered p c ∷ plain (next p c) cs
 
   unfoldable pub after : State → List Call → State
   after p [] = p

@@ -1,6 +1,6 @@
 -- Runs: of a line, and of all fed lines.
 -- Assumes nothing.
-use mathlib.Core.Bool.{Bool, true, false, not, _&&_}
+use mathlib.Core.Bool.{Bool, true, false, not, cond, _&&_}
 use mathlib.Core.List.{List, [], _∷_}
 use Prim.Native.Nat.{ℕ, suc, _-_, _*_, _%_, _≤_, _<_}
 use lib.Dec.{eqb}
@@ -63,6 +63,10 @@ singles x (true ∷ l) = record { start = x; end = suc x } ∷ singles (suc x) l
 unfoldable pub lineRuns : Bool → List Bool → List Run
 lineRuns true l = stretches false 0 0 l
 lineRuns false l = singles 0 l
+
+-- how many columns at least lie between two runs of a line: with the left byte nonzero two that touch would be one
+unfoldable pub gapOf : Bool → ℕ
+gapOf left = cond left 1 0
 
 -- the flags of line ℓ
 unfoldable pub lineOf : ℕ → List Bool → ℕ → List Bool

@@ -91,6 +91,9 @@ unfolding count
 count-all zero = refl
 count-all (suc n) = let i = count-all n in omega arith
 
+pub count-most : (f : ℕ → Bool) (n : ℕ) → count f n ≤ n
+count-most f n = omega (arith, count-le f (λ r. true) n (λ a l e. refl), count-all n)
+
 -- ---- the place of the r-th, from 0
 
 pub place : (ℕ → Bool) → ℕ → ℕ → ℕ

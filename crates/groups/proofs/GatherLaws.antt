@@ -57,6 +57,13 @@ unfolding gather
 gather-same f g a zero h = refl
 gather-same {A} f g a (suc n) h = ap₂ (λ (x : List A) (y : List A). x ++ y) (h a (le-refl a) (omega arith)) (gather-same f g (suc a) n (λ k l u. h k (omega arith) (omega arith)))
 
+pub gather-shift : {A : Type 0} (f g : ℕ → List A) (n : ℕ) → ((i : ℕ) → f (n + i) ≡ g i) → (a m : ℕ) → gather f (n + a) m ≡ gather g a m
+unfolding gather
+gather-shift f g n h a zero = refl
+gather-shift {A} f g n h a (suc m) =
+    let e : suc (n + a) ≡ n + suc a = omega arith in
+    ap₂ (λ (x : List A) (y : List A). x ++ y) (h a) (ap (λ (k : ℕ). gather f k m) e ∙ gather-shift f g n h (suc a) m)
+
 -- ---- pairs
 
 module _ {A : Type 0} where
