@@ -1,0 +1,233 @@
+-- The calls worked out on small frames: what they answer and write, and which records are sound.
+-- Assumes nothing.
+use mathlib.Core.Path.{_≡_, refl}
+use mathlib.Core.Bool.{true, false}
+use mathlib.Core.List.{List, [], _∷_, _++_, map}
+use Prim.Native.Nat.{ℕ}
+use lib.ListN.{set, replicate, take}
+use Rattle.groups.specs.Groups.{joins}
+use Rattle.groups.specs.Numbers.{number}
+use Rattle.frame.specs.Runs.{runs}
+use Rattle.frame.specs.Kinds.{u16, u32, u8}
+use Rattle.frame.specs.Plain.{Answer, fed, counted, refused}
+use Rattle.label.specs.declared.Cause.the-variants as C
+use Rattle.label.specs.declared.FeedAnswer.the-variants as F
+use Rattle.label.specs.declared.OpenAnswer.the-variants as O
+use Rattle.label.specs.declared.ReadAnswer.the-variants as R
+use Rattle.label.specs.declared.Session.{Session}
+use Rattle.label.specs.Sound.{sound}
+use Rattle.label.specs.Cases.{causeNumber, openNumber, feedAnswer, readAnswer}
+use Rattle.label.specs.Opening.{openRecord, blank}
+use Rattle.label.specs.WholeFrame.{chop, blocks}
+use Rattle.label.proofs.CallFunctions.{FeedResult, ReadResult, doOpen, doFeed, doRead, doSizes, doFrame}
+use Rattle.label.proofs.Worked.{computed, frame, cross, memory, line, whole, f, begun, one, two, three, junk, wide, wideWords, put, held}
+
+-- ---- document 01's numbers and values
+
+numbers-right : map causeNumber (C.Rank ∷ C.StructureLength ∷ C.ZeroDimension ∷ C.TooLarge ∷ C.Memory ∷ C.Unsound ∷ C.Lines ∷ C.Cells ∷ C.Length ∷ C.Kind ∷ []) ≡ 1 ∷ 2 ∷ 3 ∷ 4 ∷ 5 ∷ 6 ∷ 7 ∷ 8 ∷ 9 ∷ 10 ∷ []
+numbers-right = refl
+
+openings-right : map openNumber (O.Accepted ∷ O.Refused C.Memory ∷ []) ≡ 0 ∷ 5 ∷ []
+openings-right = refl
+
+-- a feed's lines fed, runs and joins; a reading's n, runs and joins
+cases-right : feedAnswer (F.Accepted 3 5 4) ∷ feedAnswer (F.Refused C.Lines) ∷ readAnswer (R.Accepted 1 5 4) ∷ readAnswer (R.Refused C.Kind) ∷ [] ≡ fed 3 (f 5 4) ∷ refused 7 ∷ counted 1 (f 5 4) ∷ refused 10 ∷ []
+cases-right = refl
+
+-- ---- document 01's frame 1, fed line by line
+
+opens-right : begun ≡ record { number = 0; session = record { rank = 2; shape = 3 ∷ 3 ∷ 0 ∷ 0 ∷ []; structure = cross ++ replicate 72 0; fed = 0; runs = 0; joins = 0 }; words = 0 ∷ replicate 27 7 }
+unfolding begun computed
+opens-right = refl
+
+answers-right : one .said ∷ two .said ∷ three .said ∷ [] ≡ fed 1 (f 2 0) ∷ fed 2 (f 4 2) ∷ fed 3 (f 5 4) ∷ []
+unfolding begun one two three computed
+answers-right = refl
+
+-- four line starts, then start, end, parent and name of each run; no name is written
+words-right : three .words ≡ 0 ∷ 2 ∷ 4 ∷ 5 ∷ 0 ∷ 1 ∷ 0 ∷ 7 ∷ 2 ∷ 3 ∷ 0 ∷ 7 ∷ 0 ∷ 1 ∷ 0 ∷ 7 ∷ 2 ∷ 3 ∷ 0 ∷ 7 ∷ 0 ∷ 3 ∷ 0 ∷ 7 ∷ 7 ∷ 7 ∷ 7 ∷ 7 ∷ []
+unfolding begun one two three computed
+words-right = refl
+
+-- after two lines two groups; each run's name becomes its number, and unfed cells get 0
+reading-right : doRead u8 (two .session) (two .words) junk ≡ record {
+  said = counted 2 (f 4 2);
+  words = 0 ∷ 2 ∷ 4 ∷ 7 ∷ 0 ∷ 1 ∷ 0 ∷ 1 ∷ 2 ∷ 3 ∷ 1 ∷ 2 ∷ 0 ∷ 1 ∷ 0 ∷ 1 ∷ 2 ∷ 3 ∷ 1 ∷ 2 ∷ replicate 8 7;
+  out = 1 ∷ 0 ∷ 2 ∷ 1 ∷ 0 ∷ 2 ∷ 0 ∷ 0 ∷ 0 ∷ [];
+}
+unfolding begun one two computed
+reading-right = refl
+
+sizes-right : doSizes (three .session) (three .words) (5 ∷ []) .out ≡ 7 ∷ []
+unfolding begun one two three computed
+sizes-right = refl
+
+whole-right : doFrame u16 frame cross memory (line ++ line ++ whole) junk ≡ record {
+  said = counted 1 (f 5 4);
+  words = 0 ∷ 2 ∷ 4 ∷ 5 ∷ 0 ∷ 1 ∷ 0 ∷ 1 ∷ 2 ∷ 3 ∷ 0 ∷ 1 ∷ 0 ∷ 1 ∷ 0 ∷ 1 ∷ 2 ∷ 3 ∷ 0 ∷ 1 ∷ 0 ∷ 3 ∷ 0 ∷ 1 ∷ replicate 4 7;
+  out = 1 ∷ 0 ∷ 1 ∷ 1 ∷ 0 ∷ 1 ∷ 1 ∷ 1 ∷ 1 ∷ [];
+}
+unfolding computed
+whole-right = refl
+
+refusals-right :
+    -- a start below the one before: the record is unsound, in every call
+    doFeed (two .session) (put 1 5) 1 whole .said
+    ∷ doRead u8 (two .session) (put 1 5) junk .said
+    ∷ doSizes (two .session) (put 1 5) (5 ∷ 5 ∷ []) .said
+    -- no line is left, and the cells are too few besides; one is left, and two are fed
+    ∷ doFeed (three .session) (three .words) 1 [] .said
+    ∷ doFeed (two .session) (two .words) 2 (line ++ line) .said
+    -- two cells for a line of three
+    ∷ doFeed (two .session) (two .words) 1 (take 2 line) .said
+    -- an output of eight, sizes for three numbers where there are two
+    ∷ doRead u8 (two .session) (two .words) (replicate 8 5) .said
+    ∷ doSizes (two .session) (two .words) (replicate 3 5) .said
+    -- 256 groups
+    ∷ doRead u8 wide wideWords (replicate 256 5) .said
+    -- of a whole frame: 27 words; eight cells; an output of eight
+    ∷ doFrame u8 frame cross (replicate 27 7) (line ++ line ++ whole) junk .said
+    ∷ doFrame u8 frame cross memory (line ++ line ++ take 2 whole) (replicate 8 5) .said
+    ∷ doFrame u8 frame cross memory (line ++ line ++ whole) (replicate 8 5) .said
+    ∷ []
+    ≡ map refused (6 ∷ 6 ∷ 6 ∷ 7 ∷ 7 ∷ 8 ∷ 9 ∷ 9 ∷ 10 ∷ 5 ∷ 8 ∷ 9 ∷ [])
+unfolding begun one two three computed
+refusals-right = refl
+
+-- ---- soundness
+
+-- a frame of one line of three cells, with the left byte zero, fed; it has r runs
+abbrev apart : ℕ → Session
+apart r = record { rank = 1; shape = 3 ∷ 0 ∷ 0 ∷ 0 ∷ []; structure = replicate 81 0; fed = 1; runs = r; joins = 0 }
+
+-- each breaks a clause of document 01's "Unsound, exactly", in its order, and no other unless it is said
+unsound : List (Session × List ℕ)
+unsound =
+    -- rank 0, rank 5
+    (blank, replicate 28 0)
+    ∷ (record { rank = 5; shape = replicate 4 1; structure = replicate 81 0; fed = 0; runs = 0; joins = 0 }, replicate 28 0)
+    -- a leading dimension is 0
+    ∷ (openRecord (0 ∷ 3 ∷ []) cross, replicate 28 0)
+    -- w, L and L × w at their limits
+    ∷ (openRecord (2147483647 ∷ []) (replicate 3 0), replicate 8589934590 0)
+    ∷ (openRecord (4294967293 ∷ 0 ∷ []) cross, replicate 4294967294 0)
+    ∷ (openRecord (2147483647 ∷ 2 ∷ []) cross, replicate 10737418236 0)
+    -- 27 words
+    ∷ (two .session, take 27 (two .words))
+    -- four lines fed
+    ∷ (held 4 0 0, replicate 28 0)
+    -- word 0 is 1
+    ∷ (two .session, put 0 1)
+    -- line 2 starts below line 1
+    ∷ (held 2 1 0, put 2 1)
+    -- word 2 is not the count of runs
+    ∷ (two .session, put 2 3)
+    ∷ (held 2 3 1, two .words)
+    -- three runs in a line: that many cannot stand in order either
+    ∷ (two .session, put 1 3)
+    -- run 1 is [2, 2); it is [2, 4)
+    ∷ (two .session, put 9 2)
+    ∷ (two .session, put 9 4)
+    -- runs 0 and 1 are [0, 2) and [1, 3); [2, 3) and [0, 1); [0, 2) and [2, 3)
+    ∷ (two .session, set (put 5 2) 8 1)
+    ∷ (two .session, set (set (set (put 4 2) 5 3) 8 0) 9 1)
+    ∷ (two .session, put 5 2)
+    -- with the left byte zero they are [0, 1) and [1, 3); [0, 1) and [0, 1)
+    ∷ (apart 2, 0 ∷ 2 ∷ 0 ∷ 1 ∷ 0 ∷ 7 ∷ 1 ∷ 3 ∷ 1 ∷ 7 ∷ replicate 4 7)
+    ∷ (apart 2, 0 ∷ 2 ∷ 0 ∷ 1 ∷ 0 ∷ 7 ∷ 0 ∷ 1 ∷ 1 ∷ 7 ∷ replicate 4 7)
+    -- run 0 has parent 1
+    ∷ (held 2 4 3, put 6 1)
+    -- joins are one too many, one too few
+    ∷ (held 2 4 3, two .words)
+    ∷ (held 2 4 1, two .words)
+    ∷ []
+
+-- sound records: those after an opening and after feeds, and others
+accepted : List (Session × List ℕ)
+accepted =
+    (begun .session, begun .words)
+    ∷ (one .session, one .words)
+    ∷ (two .session, two .words)
+    ∷ (three .session, three .words)
+    -- a width of 0
+    ∷ (openRecord (2 ∷ 0 ∷ []) cross, 0 ∷ 7 ∷ 7 ∷ [])
+    -- another name; a word of a line or of a run to come; more words than needed
+    ∷ (two .session, put 7 9)
+    ∷ (two .session, set (put 3 9) 20 9)
+    ∷ (two .session, two .words ++ replicate 5 9)
+    -- entries past the rank
+    ∷ (record { rank = 2; shape = 3 ∷ 3 ∷ 9 ∷ 9 ∷ []; structure = cross ++ replicate 72 9; fed = 2; runs = 4; joins = 2 }, two .words)
+    -- runs 0 and 1 in one group, which no chain joins; and longer ways to a root
+    ∷ (held 2 4 3, put 10 0)
+    ∷ (held 2 4 3, set (put 10 0) 18 2)
+    -- with the left byte zero, three runs that touch
+    ∷ (apart 3, 0 ∷ 3 ∷ 0 ∷ 1 ∷ 0 ∷ 7 ∷ 1 ∷ 2 ∷ 1 ∷ 7 ∷ 2 ∷ 3 ∷ 2 ∷ 7 ∷ [])
+    ∷ []
+
+unsound-right : map (λ x. sound (x .0) (x .1)) unsound ≡ replicate 23 false
+unfolding unsound begun one two computed
+unsound-right = refl
+
+accepted-right : map (λ x. sound (x .0) (x .1)) accepted ≡ replicate 12 true
+unfolding accepted begun one two three computed
+accepted-right = refl
+
+-- ---- a sound record of another origin is fed and read by the grouping it holds
+
+-- runs 0 and 1 in one group, where the chain rule makes two: a line that joins neither leaves it one
+other : FeedResult
+other = doFeed (held 2 4 3) (put 10 0) 1 line
+
+otherRead : ReadResult ℕ
+otherRead = doRead u8 (other .session) (other .words) junk
+
+other-right : (other .said ∷ otherRead .said ∷ [] ≡ fed 3 (f 6 5) ∷ counted 1 (f 6 5) ∷ []) × (otherRead .out ≡ 1 ∷ 0 ∷ 1 ∷ 1 ∷ 0 ∷ 1 ∷ 1 ∷ 0 ∷ 1 ∷ [])
+unfolding other otherRead begun one two computed
+other-right = (refl, refl)
+
+-- ---- blocks: a frame of shape 2, 2, 2 fed in blocks of 1, 2 and 1 lines, and of 4
+
+abbrev cube : List ℕ
+cube = 2 ∷ 2 ∷ 2 ∷ []
+
+-- 27 ones; and faces only, the offsets with one nonzero coordinate
+abbrev ones : List ℕ
+ones = replicate 27 1
+
+abbrev faces : List ℕ
+faces = replicate 4 0 ++ 1 ∷ replicate 5 0 ++ 1 ∷ 0 ∷ 1 ∷ 1 ∷ 1 ∷ 0 ∷ 1 ∷ replicate 5 0 ++ 1 ∷ replicate 4 0
+
+inBlocks : List ℕ → FeedResult
+inBlocks structure =
+    let o = doOpen cube structure (replicate 21 7) in
+    let a = doFeed (o .session) (o .words) 1 (true ∷ false ∷ []) in
+    let b = doFeed (a .session) (a .words) 2 (false ∷ true ∷ true ∷ true ∷ []) in
+    doFeed (b .session) (b .words) 1 (false ∷ false ∷ [])
+
+atOnce : List ℕ → FeedResult
+atOnce structure =
+    let o = doOpen cube structure (replicate 21 7) in
+    doFeed (o .session) (o .words) 4 (true ∷ false ∷ false ∷ true ∷ true ∷ true ∷ false ∷ false ∷ [])
+
+-- the answer, the words, and the numbers that a reading then gives
+abbrev Shown : Type 0
+Shown = Answer × List ℕ × List ℕ
+
+show : FeedResult → Shown
+show d = (d .said, d .words, doRead u32 (d .session) (d .words) (replicate 8 5) .out)
+
+-- one group, two groups
+abbrev byOnes : Shown
+byOnes = (fed 4 (f 3 2), 0 ∷ 1 ∷ 2 ∷ 3 ∷ 3 ∷ 0 ∷ 1 ∷ 0 ∷ 7 ∷ 1 ∷ 2 ∷ 0 ∷ 7 ∷ 0 ∷ 2 ∷ 0 ∷ replicate 5 7, 1 ∷ 0 ∷ 0 ∷ 1 ∷ 1 ∷ 1 ∷ 0 ∷ 0 ∷ [])
+
+abbrev byFaces : Shown
+byFaces = (fed 4 (f 3 1), 0 ∷ 1 ∷ 2 ∷ 3 ∷ 3 ∷ 0 ∷ 1 ∷ 0 ∷ 7 ∷ 1 ∷ 2 ∷ 1 ∷ 7 ∷ 0 ∷ 2 ∷ 0 ∷ replicate 5 7, 1 ∷ 0 ∷ 0 ∷ 2 ∷ 1 ∷ 1 ∷ 0 ∷ 0 ∷ [])
+
+blocks-right : map show (inBlocks ones ∷ atOnce ones ∷ inBlocks faces ∷ atOnce faces ∷ []) ≡ byOnes ∷ byOnes ∷ byFaces ∷ byFaces ∷ []
+unfolding inBlocks atOnce show computed
+blocks-right = refl
+
+-- seven lines in three blocks and in four; 0 counts as 1, above L as L; ⌈9/6⌉ is 2, so five blocks are enough
+blocks-are : blocks 7 3 ∷ blocks 7 4 ∷ blocks 5 0 ∷ blocks 3 9 ∷ blocks 9 6 ∷ [] ≡ (3 ∷ 3 ∷ 1 ∷ []) ∷ (2 ∷ 2 ∷ 2 ∷ 1 ∷ []) ∷ (5 ∷ []) ∷ (1 ∷ 1 ∷ 1 ∷ []) ∷ (2 ∷ 2 ∷ 2 ∷ 2 ∷ 1 ∷ []) ∷ []
+unfolding blocks chop
+blocks-are = refl

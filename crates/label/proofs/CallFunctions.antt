@@ -1,0 +1,106 @@
+-- A plain function for each call. Where a promise is a list of equations, the function is their right-hand sides; the parents, which
+-- alone are free, are here each group's smallest run.
+-- Assumes nothing.
+use mathlib.Core.Bool.{Bool}
+use mathlib.Core.List.{List, map}
+use Prim.Native.Nat.{ℕ, zero, suc, _+_}
+use lib.ListN.{length}
+use Rattle.groups.specs.Groups.{rep}
+use Rattle.frame.specs.Shape.{lines}
+use Rattle.frame.specs.ChainRule.{labels}
+use Rattle.frame.specs.Kinds.{Number, Value, write}
+use Rattle.frame.specs.Causes.{openCause}
+use Rattle.frame.specs.Plain.{Answer, fed, counted, unless, kept, groupsOf, figures}
+use Rattle.label.specs.declared.Session.{Session}
+use Rattle.label.specs.Lists.{setAll}
+use Rattle.label.specs.Words.{linesOf, parentPlace}
+use Rattle.label.specs.Held.{figuresOf, numbersHeld, sizesHeld}
+use Rattle.label.specs.Opening.{openRecord, openWords, blank}
+use Rattle.label.specs.Feeding.{runsAfter, feedEdges, feedRecord, withRuns, feedCauseOf}
+use Rattle.label.specs.Reading.{withNames, countedOf, readCauseOf, sizesCauseOf}
+use Rattle.label.specs.WholeFrame.{allFed, earlyCauseOf, frameCauseOf}
+
+-- ---- what comes back
+
+-- of an opening: it answers a number only
+pub record OpenResult : Type 0 where
+  pub number : ℕ
+  pub session : Session
+  pub words : List ℕ
+
+-- of a feed
+pub record FeedResult : Type 0 where
+  pub said : Answer
+  pub session : Session
+  pub words : List ℕ
+
+-- of a reading, a size call or a whole frame. The first two hand back the record that they were given
+pub record ReadResult (A : Type 0) : Type 0 where
+  pub said : Answer
+  pub words : List ℕ
+  pub out : List A
+
+-- ---- opening
+
+unfoldable pub doOpen : List ℕ → List ℕ → List ℕ → OpenResult
+doOpen shape structure ws =
+    let cause = openCause shape structure (length ws) in
+    record { number = cause; session = kept cause blank (openRecord shape structure); words = kept cause ws (openWords ws) }
+
+-- ---- feeding
+
+-- the new starts, the new runs, and each run's parent: its group's smallest run
+unfoldable pub withParents : Session → List ℕ → ℕ → List Bool → List ℕ
+withParents s ws k cells = setAll (parentPlace (linesOf s)) (rep (feedEdges s ws k cells)) (runsAfter s cells) (withRuns s ws k cells)
+
+-- a feed of no lines changes nothing
+unfoldable pub feedWords : Session → List ℕ → ℕ → List Bool → List ℕ
+feedWords s ws zero cells = ws
+feedWords s ws (suc k) cells = withParents s ws (suc k) cells
+
+unfoldable pub doFeed : Session → List ℕ → ℕ → List Bool → FeedResult
+doFeed s ws k cells =
+    let cause = feedCauseOf s ws k cells in
+    record {
+      said = unless cause (fed (s .fed + k) (figuresOf (feedRecord s ws k cells)));
+      session = kept cause s (feedRecord s ws k cells);
+      words = kept cause ws (feedWords s ws k cells);
+    }
+
+-- ---- reading, sizes
+
+unfoldable pub doRead : (kind : Number) → Session → List ℕ → List (Value kind) → ReadResult (Value kind)
+doRead kind s ws out =
+    let cause = readCauseOf kind s ws (length out) in
+    record {
+      said = unless cause (countedOf s ws);
+      words = kept cause ws (withNames s ws);
+      out = kept cause out (numbersHeld s ws kind);
+    }
+
+unfoldable pub doSizes : Session → List ℕ → List ℕ → ReadResult ℕ
+doSizes s ws out =
+    let cause = sizesCauseOf s ws (length out) in
+    record {
+      said = unless cause (countedOf s ws);
+      words = kept cause ws (withNames s ws);
+      out = kept cause out (sizesHeld s ws);
+    }
+
+-- ---- a whole frame
+
+-- the feed of all lines, after an opening
+unfoldable pub frameFeed : List ℕ → List ℕ → List ℕ → List Bool → FeedResult
+frameFeed shape structure ws cells = doFeed (openRecord shape structure) (openWords ws) (lines shape) cells
+
+unfoldable pub doFrame : (kind : Number) → List ℕ → List ℕ → List ℕ → List Bool → List (Value kind) → ReadResult (Value kind)
+doFrame kind shape structure ws cells out =
+    let early = earlyCauseOf shape structure ws cells (length out) in
+    let cause = frameCauseOf kind shape structure ws cells out in
+    let all = allFed shape structure cells in
+    let after = frameFeed shape structure ws cells in
+    record {
+      said = unless cause (counted (groupsOf shape all) (figures shape all));
+      words = kept early ws (kept cause (after .words) (withNames (after .session) (after .words)));
+      out = kept cause out (map (write kind) (labels shape structure cells));
+    }

@@ -1,0 +1,68 @@
+-- A feed of no lines: the record and the words stand.
+-- Assumes nothing.
+use mathlib.Core.Path.{_≡_, refl, sym, ap, ap₂, _∙_}
+use mathlib.Core.Bool.{Bool}
+use mathlib.Core.List.{List}
+use Prim.Native.Nat.{ℕ, zero, suc}
+use native.Mathlib.Nat.{add-zero}
+use native.Mathlib.Omega.{arith}
+use Rattle.groups.specs.Groups.{joins, gather, visit}
+use Rattle.frame.specs.Runs.{runs}
+use Rattle.frame.specs.Touches.{touches}
+use Rattle.frame.specs.Plain.{Answer}
+use Rattle.frame.proofs.FrameRunLaws.{start-zero, runs-all}
+use Rattle.frame.proofs.PlainLaws.{kept-old}
+use Rattle.label.specs.declared.Session.{Session}
+use Rattle.label.specs.Lists.{setAll}
+use Rattle.label.specs.Words.{shapeOf, structureOf, linesOf, parentOf, withFigures}
+use Rattle.label.specs.Sound.{Sound}
+use Rattle.label.specs.Held.{groupingOf}
+use Rattle.label.specs.Feeding.{runsAfter, feedTouches, feedEdges, feedRecord, withLines, withRuns, feedCauseOf, FeedWords, FeedPromise}
+use Rattle.label.proofs.ForestLaws.{grouping-rep, grouping-joins}
+use Rattle.label.proofs.AcceptedLaws.{Goes, feed-goes, goes-fits, goes-session}
+
+module _ (s : Session) (ws : List ℕ) (cells : List Bool) (G : Goes s ws 0 cells) where
+  S : Sound s ws
+  S = G .is-sound
+
+  no-runs : runs (shapeOf s) (structureOf s) cells ≡ 0
+  no-runs = runs-all (shapeOf s) (structureOf s) cells 0 (goes-fits s ws 0 cells G) ∙ start-zero (shapeOf s) (structureOf s) cells
+
+  same-runs : runsAfter s cells ≡ s .runs
+  unfolding runsAfter
+  same-runs = omega (arith, no-runs)
+
+  same-words : withRuns s ws 0 cells ≡ ws
+  unfolding withRuns withLines
+  same-words = rw no-runs (unfold setAll in refl)
+
+  same-edges : feedEdges s ws 0 cells ≡ groupingOf s ws
+  unfolding feedEdges feedTouches touches gather visit
+  same-edges = refl
+
+  pub words-none : FeedWords s ws 0 cells ws
+  words-none = record {
+    long = refl;
+    others = λ j free. rw same-words;
+    parents = λ r h. S .parents r (rw (← same-runs) h);
+    grouped = λ r h. rw same-edges (sym (grouping-rep (parentOf (linesOf s) ws) (s .runs) (S .parents) r (rw (← same-runs) h)));
+    no-lines = λ e. refl;
+  }
+
+  same-joins : joins (feedEdges s ws 0 cells) ≡ s .joins
+  same-joins = ap joins same-edges ∙ grouping-joins (parentOf (linesOf s) ws) (s .runs) (S .parents) ∙ sym (S .counted)
+
+  pub record-none : feedRecord s ws 0 cells ≡ s
+  unfolding feedRecord
+  record-none =
+      ap₂ (λ (f : ℕ) (r : ℕ). withFigures s f r (joins (feedEdges s ws 0 cells))) (add-zero (s .fed)) same-runs
+      ∙ ap (λ (j : ℕ). withFigures s (s .fed) (s .runs) j) same-joins
+
+-- so of every record, sound or not: with k = 0 nothing changes
+pub feed-none : (s : Session) (ws : List ℕ) (cells : List Bool) (a : Answer) (s′ : Session) (ws′ : List ℕ) → FeedPromise s ws 0 cells a s′ ws′
+    → (s′ ≡ s) × (ws′ ≡ ws)
+feed-none s ws cells a s′ ws′ P = go (feedCauseOf s ws 0 cells) refl
+  where
+    go : (c : ℕ) → feedCauseOf s ws 0 cells ≡ c → (s′ ≡ s) × (ws′ ≡ ws)
+    go zero e = let G = feed-goes s ws 0 cells e in (goes-session s ws 0 cells G a s′ ws′ P ∙ record-none s ws cells G, P .accepted e .no-lines refl)
+    go (suc c) e = (P .session ∙ kept-old s (feedRecord s ws 0 cells) (feedCauseOf s ws 0 cells) c e, P .refusal (omega arith))

@@ -1,0 +1,189 @@
+-- Each call keeps the invariant, and answers and writes what the plain session does: one lemma for each call.
+-- Assumes nothing.
+use mathlib.Core.Path.{_≡_, refl, sym, ap, ap₂, _∙_, subst}
+use mathlib.Core.Bool.{Bool, true}
+use mathlib.Core.List.{List, [], _++_}
+use Prim.Native.Nat.{ℕ, zero, suc, _+_, _-_, _<_}
+use native.Mathlib.Omega.{arith}
+use lib.ListN.{length}
+use Rattle.groups.specs.Groups.{Edge, rep, visit}
+use Rattle.groups.proofs.RepLaws.{Ends}
+use Rattle.groups.proofs.VisitLaws.{ends-visit}
+use Rattle.frame.specs.Touches.{frameTouches}
+use Rattle.frame.specs.Kinds.{Cells, flags, Number, Value}
+use Rattle.frame.specs.Plain.{Call, feed, read, sizes, Answer, fed, counted, nothing, numbers, counts, Answered, written, unless, kept, feeds, groupsOf, figures, cause, answer, answered, next}
+use Rattle.frame.proofs.RunGroupLaws.{touches-runs}
+use Rattle.frame.proofs.GrowLaws.{rep-grow}
+use Rattle.frame.proofs.PlainLaws.{unless-same, kept-old, kept-same, next-feeds, next-stays}
+use Rattle.label.specs.declared.Session.{Session}
+use Rattle.label.specs.Words.{shapeOf, structureOf, linesOf, parentOf}
+use Rattle.label.specs.Forest.{rootOf}
+use Rattle.label.specs.Sound.{Sound, sound}
+use Rattle.label.specs.Held.{figuresOf, cellsOf, groupingOf}
+use Rattle.label.specs.Feeding.{feedEdges, feedRecord, feedCauseOf, FeedWords, FeedPromise}
+use Rattle.label.specs.Reading.{withNames, countedOf, readCauseOf, ReadPromise, sizesCauseOf, SizesPromise}
+use Rattle.label.proofs.ForestLaws.{grouping-rep-all}
+use Rattle.label.proofs.SoundLaws.{right-sound}
+use Rattle.label.proofs.AcceptedLaws.{Goes, feed-goes, goes-session}
+use Rattle.label.proofs.StoreLaws.{Stores, stores-cells}
+use Rattle.label.proofs.SoundCells.{sound-stores}
+use Rattle.label.proofs.FeedLaws.{feed-shape, touches-after, stores-after, sound-after}
+use Rattle.label.proofs.NameLaws.{parents-stand, cells-named, sound-named}
+use Rattle.label.proofs.Invariant.{stateOf, visited, Inv, inv-runs, inv-n, inv-figures, inv-numbers, inv-sizes}
+
+-- ---- a feed that is accepted
+
+module _ (s : Session) (ws : List ℕ) (I : Inv s ws) (k : ℕ) (more : List Bool) (goes : feedCauseOf s ws k more ≡ 0) (ws′ : List ℕ) (W : FeedWords s ws k more ws′) where
+  H : Stores s ws (cellsOf s ws)
+  H = sound-stores s ws (I .is-sound)
+
+  G : Goes s ws k more
+  G = feed-goes s ws k more goes
+
+  -- the words hold the lines fed before and the new ones
+  pub fed-cells : cellsOf (feedRecord s ws k more) ws′ ≡ cellsOf s ws ++ more
+  fed-cells = stores-cells (feedRecord s ws k more) ws′ (cellsOf s ws ++ more) (stores-after s ws (cellsOf s ws) H k more (G .few) (G .whole) (I .is-sound .memory) ws′ W)
+
+  pub fed-sound : Sound (feedRecord s ws k more) ws′
+  fed-sound = sound-after s ws (cellsOf s ws) H k more (G .few) (G .whole) (I .is-sound .memory) ws′ W (I .is-sound .parents) (I .is-sound)
+
+  -- the grouping held before is that of the old lines' touches
+  before : (a : ℕ) → rep (groupingOf s ws) a ≡ rep (visited s ws) a
+  before = grouping-rep-all (parentOf (linesOf s) ws) (s .runs) (I .is-sound .parents) (visited s ws) ends (I .grouped)
+    where
+      touched : Ends (λ r. r < s .runs) (frameTouches (shapeOf s) (structureOf s) (cellsOf s ws) 0 (s .fed))
+      touched = subst (λ (n : ℕ). Ends (λ r. r < n) (frameTouches (shapeOf s) (structureOf s) (cellsOf s ws) 0 (s .fed))) (sym (inv-runs s ws I)) (touches-runs (shapeOf s) (structureOf s) (cellsOf s ws) (s .fed) (H .fits))
+
+      ends : Ends (λ r. r < s .runs) (visited s ws)
+      ends = ends-visit (λ r. r < s .runs) (frameTouches (shapeOf s) (structureOf s) (cellsOf s ws) 0 (s .fed)) [] touched tt
+
+  -- so the one held afterwards is that of all lines' touches
+  edges-after : (r : ℕ) → rep (feedEdges s ws k more) r ≡ rep (visit (frameTouches (shapeOf s) (structureOf s) (cellsOf s ws ++ more) 0 (s .fed + k)) []) r
+  unfolding feedEdges
+  edges-after r =
+      ap (λ (es : List Edge). rep (visit es (groupingOf s ws)) r) (touches-after s ws (cellsOf s ws) H k more (G .few) (G .whole))
+      ∙ rep-grow (shapeOf s) (structureOf s) (cellsOf s ws) more (s .fed) (H .fits) k (groupingOf s ws) before r
+
+  pub fed-inv : Inv (feedRecord s ws k more) ws′
+  unfolding feedRecord shapeOf structureOf
+  fed-inv = record {
+    is-sound = fed-sound;
+    grouped = λ r h. W .grouped r h ∙ edges-after r ∙ ap (λ (cells : List Bool). rep (visit (frameTouches (shapeOf s) (structureOf s) cells 0 (s .fed + k)) []) r) (sym fed-cells);
+  }
+
+  pub fed-state : stateOf (feedRecord s ws k more) ws′ ≡ feeds (stateOf s ws) k more
+  unfolding feeds feedRecord structureOf
+  fed-state = ap (λ (cells : List Bool). record { structure = structureOf s; fed = s .fed + k; cells = cells }) fed-cells
+
+  pub fed-figures : figuresOf (feedRecord s ws k more) ≡ figures (shapeOf s) (feeds (stateOf s ws) k more)
+  unfolding feedRecord shapeOf
+  fed-figures = inv-figures (feedRecord s ws k more) ws′ fed-inv ∙ ap (figures (shapeOf s)) fed-state
+
+-- ---- the calls
+
+-- a call is answered as by the plain session, and leaves a record that holds the next state of it
+pub record Follows (s : Session) (ws : List ℕ) (c : Call) (a : Answered) (s′ : Session) (ws′ : List ℕ) : Type 0 where
+  pub same : a ≡ answered (shapeOf s) (stateOf s ws) c
+  pub keeps : Inv s′ ws′
+  pub shaped : shapeOf s′ ≡ shapeOf s
+  pub state : stateOf s′ ws′ ≡ next (shapeOf s) (stateOf s ws) c
+
+module _ (s : Session) (ws : List ℕ) (I : Inv s ws) where
+  is-sound : sound s ws ≡ true
+  is-sound = right-sound s ws (I .is-sound)
+
+  -- ---- feed
+
+  pub feed-cause : (k : ℕ) (cells : Cells) → feedCauseOf s ws k (flags cells) ≡ cause (shapeOf s) (stateOf s ws) (feed k cells)
+  unfolding feedCauseOf cause
+  feed-cause k cells = rw is-sound refl
+
+  feed-said : (k : ℕ) (cells : Cells) (a : Answer) (s′ : Session) (ws′ : List ℕ) → FeedPromise s ws k (flags cells) a s′ ws′
+      → a ≡ unless (cause (shapeOf s) (stateOf s ws) (feed k cells)) (answer (shapeOf s) (stateOf s ws) (feed k cells))
+  unfolding answer
+  feed-said k cells a s′ ws′ P =
+      P .said
+      ∙ unless-same (feedCauseOf s ws k (flags cells)) _ _ _ (feed-cause k cells)
+      (λ e. ap (fed (s .fed + k)) (fed-figures s ws I k (flags cells) e ws′ (P .accepted e)))
+
+  pub feed-follows : (k : ℕ) (cells : Cells) (a : Answer) (s′ : Session) (ws′ : List ℕ) → FeedPromise s ws k (flags cells) a s′ ws′ → Follows s ws (feed k cells) (record { said = a; written = nothing }) s′ ws′
+  unfolding written
+  feed-follows k cells a s′ ws′ P = go (feedCauseOf s ws k (flags cells)) refl
+    where
+      says : record { said = a; written = nothing } ≡ answered (shapeOf s) (stateOf s ws) (feed k cells)
+      says = ap (λ (x : Answer). record { said = x; written = nothing }) (feed-said k cells a s′ ws′ P)
+
+      go : (c : ℕ) → feedCauseOf s ws k (flags cells) ≡ c → Follows s ws (feed k cells) (record { said = a; written = nothing }) s′ ws′
+      go zero e =
+          let to = goes-session s ws k (flags cells) (feed-goes s ws k (flags cells) e) a s′ ws′ P in
+          subst (λ (x : Session). Follows s ws (feed k cells) (record { said = a; written = nothing }) x ws′) (sym to)
+          (record {
+            same = says;
+            keeps = fed-inv s ws I k (flags cells) e ws′ (P .accepted e);
+            shaped = feed-shape s ws k (flags cells);
+            state = fed-state s ws I k (flags cells) e ws′ (P .accepted e) ∙ sym (next-feeds (shapeOf s) (stateOf s ws) k cells (sym (feed-cause k cells) ∙ e));
+          })
+      go (suc c) e =
+          let to = P .session ∙ kept-old s (feedRecord s ws k (flags cells)) (feedCauseOf s ws k (flags cells)) c e in
+          let stand = P .refusal (rw e (omega arith)) in
+          subst (λ (x : Session). Follows s ws (feed k cells) (record { said = a; written = nothing }) x ws′) (sym to)
+          (subst (λ (vs : List ℕ). Follows s ws (feed k cells) (record { said = a; written = nothing }) s vs) (sym stand)
+          (record { same = says; keeps = I; shaped = refl; state = sym (next-stays (shapeOf s) (stateOf s ws) k cells c (sym (feed-cause k cells) ∙ e)) }))
+
+  -- ---- reading and sizes: the record stays, and name words are no part of the state
+
+  named-inv : Inv s (withNames s ws)
+  named-inv = record {
+    is-sound = sound-named s ws (cellsOf s ws) H (I .is-sound);
+    grouped = λ r h. ap (λ (p : ℕ → ℕ). rootOf p r) (parents-stand s ws) ∙ I .grouped r h ∙ ap (λ (cells : List Bool). rep (visit (frameTouches (shapeOf s) (structureOf s) cells 0 (s .fed)) []) r) (sym (cells-named s ws (cellsOf s ws) H));
+  }
+    where
+      H : Stores s ws (cellsOf s ws)
+      H = sound-stores s ws (I .is-sound)
+
+  named-state : stateOf s (withNames s ws) ≡ stateOf s ws
+  named-state = ap (λ (cells : List Bool). record { structure = structureOf s; fed = s .fed; cells = cells }) (cells-named s ws (cellsOf s ws) (sound-stores s ws (I .is-sound)))
+
+  -- whether the names were written or not
+  names-keep : (c : ℕ) → Inv s (kept c ws (withNames s ws)) × (stateOf s (kept c ws (withNames s ws)) ≡ stateOf s ws)
+  unfolding kept
+  names-keep zero = (named-inv, named-state)
+  names-keep (suc c) = (I, refl)
+
+  counted-same : countedOf s ws ≡ counted (groupsOf (shapeOf s) (stateOf s ws)) (figures (shapeOf s) (stateOf s ws))
+  counted-same = ap₂ counted (inv-n s ws I) (inv-figures s ws I)
+
+  named-follows : (c : Call) (d : ℕ) (a : Answered) (s′ : Session) (ws′ : List ℕ) → a ≡ answered (shapeOf s) (stateOf s ws) c → s′ ≡ s
+      → ws′ ≡ kept d ws (withNames s ws) → next (shapeOf s) (stateOf s ws) c ≡ stateOf s ws → Follows s ws c a s′ ws′
+  named-follows c d a s′ ws′ says session words stays =
+      subst (λ (x : Session). Follows s ws c a x ws′) (sym session)
+      (subst (λ (vs : List ℕ). Follows s ws c a s vs) (sym words)
+      (record { same = says; keeps = names-keep d .0; shaped = refl; state = names-keep d .1 ∙ sym stays }))
+
+  module _ (kind : Number) (out : List (Value kind)) where
+    pub read-cause : readCauseOf kind s ws (length out) ≡ cause (shapeOf s) (stateOf s ws) (read kind out)
+    unfolding readCauseOf cause
+    read-cause = rw (is-sound, inv-n s ws I) refl
+
+    pub read-follows : (a : Answer) (s′ : Session) (ws′ : List ℕ) (out′ : List (Value kind)) → ReadPromise kind s ws out a s′ ws′ out′ → Follows s ws (read kind out) (record { said = a; written = numbers kind out′ }) s′ ws′
+    unfolding answer written next
+    read-follows a s′ ws′ out′ P =
+        named-follows (read kind out) (readCauseOf kind s ws (length out)) (record { said = a; written = numbers kind out′ }) s′ ws′
+        (ap₂ (λ (x : Answer) (o : List (Value kind)). record { said = x; written = numbers kind o })
+        (P .said ∙ unless-same (readCauseOf kind s ws (length out)) _ _ _ read-cause (λ e. counted-same))
+        (P .output ∙ kept-same (readCauseOf kind s ws (length out)) _ out _ _ read-cause (λ e. inv-numbers s ws I kind)))
+        (P .session) (P .words) refl
+
+  module _ (out : List ℕ) where
+    pub sizes-cause : sizesCauseOf s ws (length out) ≡ cause (shapeOf s) (stateOf s ws) (sizes out)
+    unfolding sizesCauseOf cause
+    sizes-cause = rw (is-sound, inv-n s ws I) refl
+
+    pub sizes-follows : (a : Answer) (s′ : Session) (ws′ out′ : List ℕ) → SizesPromise s ws out a s′ ws′ out′ → Follows s ws (sizes out) (record { said = a; written = counts out′ }) s′ ws′
+    unfolding answer written next
+    sizes-follows a s′ ws′ out′ P =
+        named-follows (sizes out) (sizesCauseOf s ws (length out)) (record { said = a; written = counts out′ }) s′ ws′
+        (ap₂ (λ (x : Answer) (o : List ℕ). record { said = x; written = counts o })
+        (P .said ∙ unless-same (sizesCauseOf s ws (length out)) _ _ _ sizes-cause (λ e. counted-same))
+        (P .output ∙ kept-same (sizesCauseOf s ws (length out)) _ out _ _ sizes-cause (λ e. inv-sizes s ws I)))
+        (P .session) (P .words) refl

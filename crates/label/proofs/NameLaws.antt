@@ -1,0 +1,57 @@
+-- Name words: setting them changes no other word, so that what a record holds stays.
+-- Assumes nothing.
+use mathlib.Core.Path.{_≡_, sym, ap, ap₂, _∙_, subst, fun-ext}
+use mathlib.Core.Logic.{_≢_}
+use mathlib.Core.Bool.{Bool}
+use mathlib.Core.List.{List}
+use Prim.Native.Nat.{ℕ, _≤_, _<_}
+use native.Mathlib.Omega.{arith}
+use lib.ListN.{length, getD}
+use Rattle.label.specs.declared.Session.{Session}
+use Rattle.label.specs.Words.{linesOf, namePlace, parentOf, nameOf}
+use Rattle.label.specs.Forest.{nonRoots, numberIn}
+use Rattle.label.specs.Sound.{Sound}
+use Rattle.label.specs.Held.{cellsOf}
+use Rattle.label.specs.Reading.{withNames}
+use Rattle.label.proofs.SetLaws.{length-setAll, setAll-other, setAll-at}
+use Rattle.label.proofs.StoreLaws.{Stores, stores-cells}
+use Rattle.label.proofs.StoredSound.{stores-sound}
+
+module _ (s : Session) (ws : List ℕ) where
+  abbrev L : ℕ
+  L = linesOf s
+
+  pub length-names : length (withNames s ws) ≡ length ws
+  unfolding withNames
+  length-names = length-setAll _ _ (s .runs) ws
+
+  -- every word that is no name stands
+  pub names-other : (j : ℕ) → ((r : ℕ) → r < s .runs → j ≢ namePlace L r) → getD (withNames s ws) j 0 ≡ getD ws j 0
+  unfolding withNames
+  names-other j h = setAll-other _ _ (s .runs) ws j h
+
+  pub parents-stand : parentOf L (withNames s ws) ≡ parentOf L ws
+  parents-stand = fun-ext (λ r. names-other _ (λ i h q. omega arith))
+
+  -- and a run's name is its number
+  pub names-at : ((r : ℕ) → r < s .runs → namePlace L r < length ws) → (r : ℕ) → r < s .runs → nameOf L (withNames s ws) r ≡ numberIn (parentOf L ws) r
+  unfolding withNames
+  names-at room r h = setAll-at (namePlace L) (numberIn (parentOf L ws)) (s .runs) ws (λ a b x y q. omega arith) r h (room r h)
+
+  module _ (cells : List Bool) (H : Stores s ws cells) where
+    pub stores-named : Stores s (withNames s ws) cells
+    stores-named = record {
+      fits = H .fits;
+      starts = λ ℓ h. names-other ℓ (λ r l q. omega (arith, H .fits .below)) ∙ H .starts ℓ h;
+      runs-are = H .runs-are;
+      listed = λ r h. ap₂ (λ (x : ℕ) (y : ℕ). record { start = x; end = y }) (names-other _ (λ i l q. omega arith)) (names-other _ (λ i l q. omega arith)) ∙ H .listed r h;
+    }
+
+    pub cells-named : cellsOf s (withNames s ws) ≡ cellsOf s ws
+    cells-named = stores-cells s (withNames s ws) cells stores-named ∙ sym (stores-cells s ws cells H)
+
+    pub sound-named : Sound s ws → Sound s (withNames s ws)
+    sound-named S =
+        stores-sound s (withNames s ws) cells stores-named (S .ranked) (S .dimensions) (S .limits) (rw length-names (S .memory))
+        (subst (λ (p : ℕ → ℕ). (r : ℕ) → r < s .runs → p r ≤ r) (sym parents-stand) (S .parents))
+        (S .counted ∙ ap (λ (p : ℕ → ℕ). nonRoots p (s .runs)) (sym parents-stand))

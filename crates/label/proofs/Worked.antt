@@ -1,0 +1,84 @@
+-- Document 01's frame 1 worked out by the plain calls, and what a computation opens. proofs/Answers.antt and proofs/WrongPrograms.antt use it.
+-- Assumes nothing.
+use mathlib.Core.Bool.{Bool, true, false}
+use mathlib.Core.List.{List, [], _∷_, _++_, zipWith}
+use Prim.Native.Nat.{ℕ, suc}
+use lib.ListN.{set, replicate}
+use Rattle.groups.specs.Groups.{merge, rep, isRoot, count, groups, joins, gather, pairs, visit}
+use Rattle.groups.specs.Numbers.{number}
+use Rattle.frame.specs.Shape.{size, width, leading, coords}
+use Rattle.frame.specs.Structure.{offset, backward, on, leftOn}
+use Rattle.frame.specs.ChainRule.{nonzero, sameList, any, leadsBy, step, edges, groupCount, label, range, labels}
+use Rattle.frame.specs.Runs.{goesOn, beginsRun, runs, stretches, singles, lineRuns, gapOf, lineOf, frameRuns, allRuns, runsBefore, frameRun}
+use Rattle.frame.specs.Touches.{reaches, used, hasNbr, nbrLine, touchesBy, touchesOf, touches}
+use Rattle.frame.specs.Kinds.{largest, holds}
+use Rattle.frame.specs.Memory.{perLine, wordsNeeded}
+use Rattle.frame.specs.Causes.{badRank, hasZero, tooLarge, firstCause, openTests, openCause, feedTests, feedCause, readTests, readCause, sizesTests, sizesCause, frameTests, frameCause}
+use Rattle.frame.specs.Plain.{Figures, fed, unless, kept, feeds, groupsOf, figures}
+use Rattle.label.specs.declared.Session.{Session}
+use Rattle.label.specs.Lists.{all, every, lastBelow, entries, padded, setAll}
+use Rattle.label.specs.Words.{shapeOf, structureOf}
+use Rattle.label.specs.Forest.{up, rootOf, own, roots, nonRoots, numberIn, grouping}
+use Rattle.label.specs.Sound.{sound}
+use Rattle.label.specs.Held.{holdsCell, cellsOf, holderOf, rootCount, numberAt, sizeAt}
+use Rattle.label.specs.Feeding.{runsAfter, startAfter, runAfter, feedTouches, feedEdges, feedRecord, withLines, withRuns, feedCauseOf}
+use Rattle.label.specs.Reading.{withNames, readCauseOf, sizesCauseOf}
+use Rattle.label.specs.WholeFrame.{earlyCauseOf, frameCauseOf}
+use Rattle.label.proofs.CallFunctions.{OpenResult, FeedResult, doOpen, withParents, feedWords, doFeed, doRead, doSizes, frameFeed, doFrame}
+
+-- what a computation opens
+unfoldable pub computed : Unit {0}
+unfolding merge rep isRoot count groups joins gather pairs visit number size width leading coords offset backward on leftOn nonzero sameList any leadsBy step edges groupCount label range labels goesOn beginsRun runs stretches singles lineRuns gapOf lineOf frameRuns allRuns runsBefore frameRun reaches used hasNbr nbrLine touchesBy touchesOf touches largest holds perLine wordsNeeded badRank hasZero tooLarge firstCause openTests openCause feedTests feedCause readTests readCause sizesTests sizesCause frameTests frameCause unless kept feeds groupsOf figures entries shapeOf structureOf setAll up rootOf own roots nonRoots numberIn grouping all every sound lastBelow holdsCell cellsOf holderOf rootCount numberAt sizeAt padded runsAfter startAfter runAfter feedTouches feedEdges feedRecord withLines withRuns feedCauseOf withNames readCauseOf sizesCauseOf earlyCauseOf frameCauseOf doOpen withParents feedWords doFeed doRead doSizes frameFeed doFrame zipWith
+computed = tt
+
+-- ---- document 01's frame 1, fed line by line
+
+abbrev pub frame : List ℕ
+frame = 3 ∷ 3 ∷ []
+
+abbrev pub cross : List ℕ
+cross = 0 ∷ 1 ∷ 0 ∷ 1 ∷ 1 ∷ 1 ∷ 0 ∷ 1 ∷ 0 ∷ []
+
+-- the memory holds anything
+abbrev pub memory : List ℕ
+memory = replicate 28 7
+
+abbrev pub line : List Bool
+line = true ∷ false ∷ true ∷ []
+
+abbrev pub whole : List Bool
+whole = true ∷ true ∷ true ∷ []
+
+abbrev pub f : ℕ → ℕ → Figures
+f r j = record { runs = r; joins = j }
+
+unfoldable pub begun : OpenResult
+begun = doOpen frame cross memory
+
+unfoldable pub one : FeedResult
+one = doFeed (begun .session) (begun .words) 1 line
+
+unfoldable pub two : FeedResult
+two = doFeed (one .session) (one .words) 1 line
+
+unfoldable pub three : FeedResult
+three = doFeed (two .session) (two .words) 1 whole
+
+-- what an output holds before
+abbrev pub junk : List ℕ
+junk = replicate 9 5
+
+-- 256 cells, each a group of its own: more than u8 holds
+abbrev pub wide : Session
+wide = record { rank = 1; shape = 256 ∷ 0 ∷ 0 ∷ 0 ∷ []; structure = replicate 81 0; fed = 1; runs = 256; joins = 0 }
+
+abbrev pub wideWords : List ℕ
+wideWords = 0 ∷ 256 ∷ gather (λ r. r ∷ suc r ∷ r ∷ 7 ∷ []) 0 256
+
+-- the words after two lines, with v at place i
+abbrev pub put : ℕ → ℕ → List ℕ
+put i v = set (two .words) i v
+
+-- records of the frame, with other figures
+abbrev pub held : ℕ → ℕ → ℕ → Session
+held l r j = record { rank = 2; shape = 3 ∷ 3 ∷ 0 ∷ 0 ∷ []; structure = cross ++ replicate 72 0; fed = l; runs = r; joins = j }

@@ -1,0 +1,234 @@
+-- Programs that a promise refuses: the cheats of document 01's "For whoever tests it", and more. What is not spoilt is left open.
+-- Assumes nothing.
+use mathlib.Core.Path.{_≡_, refl, ap}
+use mathlib.Core.List.{List, [], _∷_, _++_}
+use Prim.Native.Nat.{ℕ, suc, _≤_, _<_}
+use native.Mathlib.Omega.{arith}
+use lib.ListN.{length, getD, set, replicate}
+use Rattle.groups.specs.Groups.{joins}
+use Rattle.frame.specs.Kinds.{u8}
+use Rattle.frame.specs.Plain.{Figures, Answer, fed, counted, refused}
+use Rattle.label.specs.declared.Session.{Session}
+use Rattle.label.specs.Words.{namePlace, parentOf}
+use Rattle.label.specs.Forest.{numberIn}
+use Rattle.label.specs.Opening.{OpenPromise}
+use Rattle.label.specs.Feeding.{FeedPromise}
+use Rattle.label.specs.Reading.{withNames, ReadPromise, SizesPromise}
+use Rattle.label.specs.WholeFrame.{FramePromise}
+use Rattle.label.proofs.SetLaws.{setAll-other, setAll-at}
+use Rattle.label.proofs.Worked.{computed, frame, cross, memory, line, whole, f, begun, one, two, junk, wide, wideWords, put, held}
+
+-- word j
+abbrev word : ℕ → List ℕ → ℕ
+word j ws = getD ws j 0
+
+abbrev joinsSaid : Answer → ℕ
+joinsSaid (fed l g) = g .joins
+joinsSaid (counted n g) = g .joins
+joinsSaid (refused c) = 0
+
+abbrev numberSaid : Answer → ℕ
+numberSaid (fed l g) = 0
+numberSaid (counted n g) = 0
+numberSaid (refused c) = c
+
+-- openings
+
+-- it always refuses
+always-refuses : (n : ℕ) (s : Session) (ws : List ℕ) → OpenPromise frame cross memory (suc n) s ws → ⊥
+unfolding computed
+always-refuses n s ws P = let z : suc n ≡ 0 = P .said in omega arith
+
+-- it clears all words
+clears : (n : ℕ) (s : Session) → OpenPromise frame cross memory n s (replicate 28 0) → ⊥
+unfolding computed
+clears n s P = let z : _≡_ {A = ℕ} 0 7 = ap (word 1) (P .words) in omega arith
+
+-- refused, it writes word 0
+opens-anyway : (n : ℕ) (s : Session) → OpenPromise frame cross (replicate 27 7) n s (0 ∷ replicate 26 7) → ⊥
+unfolding computed
+opens-anyway n s P = let z : _≡_ {A = ℕ} 0 7 = ap (word 0) (P .words) in omega arith
+
+-- feeds: the second line, and the third
+
+abbrev Second : Answer → Session → List ℕ → Type 0
+Second = FeedPromise (one .session) (one .words) 1 line
+
+abbrev Third : Answer → Session → List ℕ → Type 0
+Third = FeedPromise (two .session) (two .words) 1 whole
+
+-- it unites lines only in the first call: the second's runs stay apart
+first-only : (a : Answer) (s : Session) → Second a s (set (put 14 2) 18 3) → ⊥
+unfolding begun one two computed
+first-only a s P = let z : _≡_ {A = ℕ} 2 0 = P .accepted refl .grouped 2 (omega arith) in omega arith
+
+-- it unites all
+unites-all : (a : Answer) (s : Session) → Second a s (set (put 10 0) 18 0) → ⊥
+unfolding begun one two computed
+unites-all a s P = let z : _≡_ {A = ℕ} 0 1 = P .accepted refl .grouped 1 (omega arith) in omega arith
+
+-- it stores nothing in the record; nothing in the words
+stores-nothing : (a : Answer) (ws : List ℕ) → Second a (one .session) ws → ⊥
+unfolding begun one computed
+stores-nothing a ws P = let z : _≡_ {A = ℕ} 1 2 = ap (λ (x : Session). x .fed) (P .session) in omega arith
+
+stores-no-words : (a : Answer) (s : Session) → Second a s (one .words) → ⊥
+unfolding begun one computed
+stores-no-words a s P = let z : _≡_ {A = ℕ} 7 4 = P .accepted refl .others 2 (λ r h e. omega arith) in omega arith
+
+-- joins invented, or padded with idle unions: in the record, in the answer
+padded-joins : (a : Answer) (ws : List ℕ) → Third a (held 3 5 5) ws → ⊥
+unfolding begun one two computed
+padded-joins a ws P = let z : _≡_ {A = ℕ} 5 4 = ap (λ (x : Session). x .joins) (P .session) in omega arith
+
+told-wrong : (s : Session) (ws : List ℕ) → Third (fed 3 (f 5 5)) s ws → ⊥
+unfolding begun one two computed
+told-wrong s ws P = let z : _≡_ {A = ℕ} 5 4 = ap joinsSaid (P .said) in omega arith
+
+-- 7 with a line still to come
+early-seven : (s : Session) (ws : List ℕ) → Third (refused 7) s ws → ⊥
+unfolding begun one two computed
+early-seven s ws P = let z : _≡_ {A = ℕ} 7 0 = ap numberSaid (P .said) in omega arith
+
+-- it changes a name; the end of a run that was there
+changes-name : (a : Answer) (s : Session) (ws : List ℕ) → Third a s ws → word 7 ws ≡ 1 → ⊥
+unfolding begun one two computed
+changes-name a s ws P e = let z : word 7 ws ≡ 7 = P .accepted refl .others 7 (λ r h q. omega arith) in omega arith
+
+changes-run : (a : Answer) (s : Session) (ws : List ℕ) → Third a s ws → word 5 ws ≡ 2 → ⊥
+unfolding begun one two computed
+changes-run a s ws P e = let z : word 5 ws ≡ 1 = P .accepted refl .others 5 (λ r h q. omega arith) in omega arith
+
+-- run 1's parent is run 4
+parent-above : (a : Answer) (s : Session) (ws : List ℕ) → Third a s ws → word 10 ws ≡ 4 → ⊥
+unfolding begun one two computed
+parent-above a s ws P e = let z : word 10 ws ≤ 1 = P .accepted refl .parents 1 (omega arith) in omega arith
+
+-- run 2 is the root of runs 0 and 2
+larger-root : (a : Answer) (s : Session) → Second a s (set (put 6 2) 14 2) → ⊥
+unfolding begun one two computed
+larger-root a s P = let z : _≡_ {A = ℕ} 2 0 = P .accepted refl .grouped 2 (omega arith) in omega arith
+
+-- a feed of no lines halves the way from run 3 over run 1 to run 0: the grouping stands, but a word changes
+halves : (a : Answer) (s : Session) → FeedPromise (held 2 4 3) (put 10 0) 0 [] a s (set (put 10 0) 18 0) → ⊥
+unfolding begun one two computed
+halves a s P = let z : _≡_ {A = ℕ} 0 1 = ap (word 18) (P .accepted refl .no-lines refl) in omega arith
+
+-- two lines where one is left: refused, it writes a line's start; it stores the lines
+writes-refused : (a : Answer) (s : Session) (ws : List ℕ) → FeedPromise (two .session) (two .words) 2 (line ++ line) a s ws → word 3 ws ≡ 6 → ⊥
+unfolding begun one two computed
+writes-refused a s ws P e = let h : 0 < 7 = omega arith in let z : word 3 ws ≡ 7 = ap (word 3) (P .refusal h) in omega arith
+
+stores-refused : (a : Answer) (ws : List ℕ) → FeedPromise (two .session) (two .words) 2 (line ++ line) a (held 4 8 6) ws → ⊥
+unfolding begun one two computed
+stores-refused a ws P = let z : _≡_ {A = ℕ} 4 2 = ap (λ (x : Session). x .fed) (P .session) in omega arith
+
+-- an unsound record is fed
+feeds-unsound : (l : ℕ) (g : Figures) (s : Session) (ws : List ℕ) → FeedPromise (two .session) (put 0 1) 1 whole (fed l g) s ws → ⊥
+unfolding begun one two computed
+feeds-unsound l g s ws P = let z : _≡_ {A = ℕ} 0 6 = ap numberSaid (P .said) in omega arith
+
+-- readings after two lines
+
+abbrev Reads : Answer → Session → List ℕ → List ℕ → Type 0
+Reads = ReadPromise u8 (two .session) (two .words) junk
+
+-- it numbers all nonzero cells 1; each run apart; unfed cells are left as they were
+all-one : (a : Answer) (s : Session) (ws : List ℕ) → Reads a s ws (1 ∷ 0 ∷ 1 ∷ 1 ∷ 0 ∷ 1 ∷ 0 ∷ 0 ∷ 0 ∷ []) → ⊥
+unfolding begun one two computed
+all-one a s ws P = let z : _≡_ {A = ℕ} 1 2 = ap (word 2) (P .output) in omega arith
+
+each-apart : (a : Answer) (s : Session) (ws : List ℕ) → Reads a s ws (1 ∷ 0 ∷ 2 ∷ 3 ∷ 0 ∷ 4 ∷ 0 ∷ 0 ∷ 0 ∷ []) → ⊥
+unfolding begun one two computed
+each-apart a s ws P = let z : _≡_ {A = ℕ} 3 1 = ap (word 3) (P .output) in omega arith
+
+leaves-unfed : (a : Answer) (s : Session) (ws : List ℕ) → Reads a s ws (1 ∷ 0 ∷ 2 ∷ 1 ∷ 0 ∷ 2 ∷ 5 ∷ 5 ∷ 5 ∷ []) → ⊥
+unfolding begun one two computed
+leaves-unfed a s ws P = let z : _≡_ {A = ℕ} 5 0 = ap (word 6) (P .output) in omega arith
+
+-- 10 before n is compared
+early-ten : (s : Session) (ws out : List ℕ) → Reads (refused 10) s ws out → ⊥
+unfolding begun one two computed
+early-ten s ws out P = let z : _≡_ {A = ℕ} 10 0 = ap numberSaid (P .said) in omega arith
+
+-- the name of run 2 is its own number, from 1; its parent changes; another record comes back
+names-runs : (a : Answer) (s : Session) (ws out : List ℕ) → Reads a s ws out → word 15 ws ≡ 3 → ⊥
+unfolding begun one two computed
+names-runs a s ws out P e = let z : word 15 ws ≡ 1 = ap (word 15) (P .words) in omega arith
+
+changes-parent : (a : Answer) (s : Session) (ws out : List ℕ) → Reads a s ws out → word 14 ws ≡ 2 → ⊥
+unfolding begun one two computed
+changes-parent a s ws out P e = let z : word 14 ws ≡ 0 = ap (word 14) (P .words) in omega arith
+
+another-record : (a : Answer) (ws out : List ℕ) → Reads a (held 2 4 3) ws out → ⊥
+unfolding begun one two computed
+another-record a ws out P = let z : _≡_ {A = ℕ} 3 2 = ap (λ (x : Session). x .joins) (P .session) in omega arith
+
+-- refused with 9, it writes the output; with 10, it names runs
+writes-nine : (a : Answer) (s : Session) (ws : List ℕ)
+    → ReadPromise u8 (two .session) (two .words) (replicate 8 5) a s ws (1 ∷ 0 ∷ 2 ∷ 1 ∷ 0 ∷ 2 ∷ 0 ∷ 0 ∷ []) → ⊥
+unfolding begun one two computed
+writes-nine a s ws P = let z : _≡_ {A = ℕ} 1 5 = ap (word 0) (P .output) in omega arith
+
+names-ten : (a : Answer) (s : Session) (ws out : List ℕ) → ReadPromise u8 wide wideWords (replicate 256 5) a s ws out → word 5 ws ≡ 1 → ⊥
+unfolding computed
+names-ten a s ws out P e = let z : word 5 ws ≡ 7 = ap (word 5) (P .words) in omega arith
+
+-- size calls after two lines
+
+abbrev Sizes : Answer → Session → List ℕ → List ℕ → Type 0
+Sizes = SizesPromise (two .session) (two .words) (5 ∷ 5 ∷ [])
+
+-- the sizes of numbers 0 and 1, in place of 1 and 2; no names are written
+shifted : (a : Answer) (s : Session) (ws : List ℕ) → Sizes a s ws (5 ∷ 2 ∷ []) → ⊥
+unfolding begun one two computed
+shifted a s ws P = let z : _≡_ {A = ℕ} 5 2 = ap (word 0) (P .output) in omega arith
+
+names-none : (a : Answer) (s : Session) (out : List ℕ) → Sizes a s (two .words) out → ⊥
+unfolding begun one two computed
+names-none a s out P = let z : _≡_ {A = ℕ} 7 1 = ap (word 7) (P .words) in omega arith
+
+-- whole frames
+
+abbrev Labels : List ℕ → Answer → List ℕ → List ℕ → Type 0
+Labels out = FramePromise u8 frame cross memory (line ++ line ++ whole) out
+
+-- each run is numbered apart; a join too many is answered
+whole-apart : (a : Answer) (ws : List ℕ) → Labels junk a ws (1 ∷ 0 ∷ 2 ∷ 3 ∷ 0 ∷ 4 ∷ 5 ∷ 5 ∷ 5 ∷ []) → ⊥
+unfolding computed
+whole-apart a ws P = let z : _≡_ {A = ℕ} 2 1 = ap (word 2) (P .output) in omega arith
+
+whole-told : (ws out : List ℕ) → Labels junk (counted 1 (f 5 5)) ws out → ⊥
+unfolding computed
+whole-told ws out P = let z : _≡_ {A = ℕ} 5 4 = ap joinsSaid (P .said) in omega arith
+
+-- accepted, it stores no line's start; it names no run
+whole-stores : (a : Answer) (ws out : List ℕ) → Labels junk a ws out → word 1 ws ≡ 7 → ⊥
+unfolding computed
+whole-stores a ws out P e =
+    let F = P .accepted refl in
+    let v = F .fed-words in
+    let s : F .session ≡ held 3 5 4 = F .fed-all .session in
+    let n : ws ≡ withNames (held 3 5 4) v = rw s at (F .names) in
+    let names : word 1 (withNames (held 3 5 4) v) ≡ word 1 v = setAll-other (namePlace 3) (numberIn (parentOf 3 v)) 5 v 1 (λ r h q. omega arith) in
+    let z : word 1 v ≡ 2 = F .fed-all .accepted refl .others 1 (λ r h q. omega arith) in
+    omega (arith, ap (word 1) n)
+
+whole-names : (a : Answer) (ws out : List ℕ) → Labels junk a ws out → word 7 ws ≡ 7 → ⊥
+unfolding computed
+whole-names a ws out P e =
+    let F = P .accepted refl in
+    let v = F .fed-words in
+    let s : F .session ≡ held 3 5 4 = F .fed-all .session in
+    let n : ws ≡ withNames (held 3 5 4) v = rw s at (F .names) in
+    let long : length v ≡ 28 = F .fed-all .accepted refl .long in
+    let low : word 6 v ≤ 0 = F .fed-all .accepted refl .parents 0 (omega arith) in
+    let root : word 6 v ≡ 0 = omega arith in
+    let names : word 7 (withNames (held 3 5 4) v) ≡ numberIn (parentOf 3 v) 0 = setAll-at (namePlace 3) (numberIn (parentOf 3 v)) 5 v (λ i j a b q. omega arith) 0 (omega arith) (omega arith) in
+    let z : numberIn (parentOf 3 v) 0 ≡ 1 = rw root in
+    omega (arith, ap (word 7) n)
+
+-- refused with 9, it has openRecord: word 0 is written
+whole-nine : (a : Answer) (out : List ℕ) → Labels (5 ∷ []) a (set memory 0 0) out → ⊥
+unfolding computed
+whole-nine a out P = let h : 0 < 9 = omega arith in let z : _≡_ {A = ℕ} 0 7 = ap (word 0) (P .refusal h) in omega arith

@@ -1,0 +1,80 @@
+-- What a feed promises, whatever the kind of its cells: `cells` says of each whether it is nonzero.
+-- Assumes nothing.
+use mathlib.Core.Path.{_≡_}
+use mathlib.Core.Bool.{Bool, cond}
+use mathlib.Core.List.{List}
+use Prim.Native.Nat.{ℕ, suc, _+_, _-_, _≤_, _<_}
+use lib.Dec.{ltb, leb}
+use lib.ListN.{length, getD}
+use Rattle.groups.specs.Groups.{Edge, rep, joins, visit}
+use Rattle.frame.specs.Shape.{width, leading}
+use Rattle.frame.specs.Runs.{runs, Run, runsBefore, frameRun}
+use Rattle.frame.specs.Touches.{touches}
+use Rattle.frame.specs.Causes.{feedCause}
+use Rattle.frame.specs.Plain.{Answer, fed, unless, kept}
+use Rattle.label.specs.declared.Session.{Session}
+use Rattle.label.specs.Lists.{setAll}
+use Rattle.label.specs.Words.{shapeOf, structureOf, linesOf, linePlace, startPlace, endPlace, lineStart, parentOf, storedRun, NoParent, withFigures}
+use Rattle.label.specs.Forest.{rootOf}
+use Rattle.label.specs.Sound.{sound}
+use Rattle.label.specs.Held.{figuresOf, groupingOf}
+
+-- ---- the runs afterwards: those that the words hold, then those of the new cells
+
+unfoldable pub runsAfter : Session → List Bool → ℕ
+runsAfter s cells = s .runs + runs (shapeOf s) (structureOf s) cells
+
+-- how many stand before line ℓ, and run r
+unfoldable pub startAfter : Session → List ℕ → List Bool → ℕ → ℕ
+startAfter s ws cells ℓ = cond (leb ℓ (s .fed)) (lineStart ws ℓ) (s .runs + runsBefore (shapeOf s) (structureOf s) cells (ℓ - s .fed))
+
+unfoldable pub runAfter : Session → List ℕ → List Bool → ℕ → Run
+runAfter s ws cells r = cond (ltb r (s .runs)) (storedRun (linesOf s) ws r) (frameRun (shapeOf s) (structureOf s) cells (r - s .runs))
+
+module _ (s : Session) (ws : List ℕ) (k : ℕ) (cells : List Bool) where
+  -- ---- the grouping afterwards
+
+  -- the touches of the new lines, in the order in which they are visited
+  unfoldable pub feedTouches : List Edge
+  feedTouches = touches (leading (shapeOf s)) (structureOf s) (startAfter s ws cells) (runAfter s ws cells) (s .fed) k
+
+  -- the grouping held before, and then these
+  unfoldable pub feedEdges : List Edge
+  feedEdges = visit feedTouches (groupingOf s ws)
+
+  -- ---- the record afterwards
+
+  unfoldable pub feedRecord : Session
+  feedRecord = withFigures s (s .fed + k) (runsAfter s cells) (joins feedEdges)
+
+  -- ---- the words afterwards, parents aside: the new line starts, and the new runs' starts and ends, are written
+
+  unfoldable pub withLines : List ℕ
+  withLines = setAll (λ i. linePlace (s .fed + suc i)) (λ i. startAfter s ws cells (s .fed + suc i)) k ws
+
+  unfoldable pub withRuns : List ℕ
+  withRuns =
+      setAll (λ i. endPlace (linesOf s) (s .runs + i)) (λ i. runAfter s ws cells (s .runs + i) .end) (runs (shapeOf s) (structureOf s) cells)
+      (setAll (λ i. startPlace (linesOf s) (s .runs + i)) (λ i. runAfter s ws cells (s .runs + i) .start) (runs (shapeOf s) (structureOf s) cells)
+      withLines)
+
+  -- 6, 7, 8, or 0
+  unfoldable pub feedCauseOf : ℕ
+  feedCauseOf = feedCause (sound s ws) (linesOf s - s .fed) k (width (shapeOf s)) (length cells)
+
+  pub record FeedWords (ws′ : List ℕ) : Type 0 where
+    pub long : length ws′ ≡ length ws
+    -- every word that is no run's parent
+    pub others : (j : ℕ) → NoParent (linesOf s) (runsAfter s cells) j → getD ws′ j 0 ≡ getD withRuns j 0
+    -- of the parents only: none is above its run, and they give the grouping, a group's root being its smallest run
+    pub parents : (r : ℕ) → r < runsAfter s cells → parentOf (linesOf s) ws′ r ≤ r
+    pub grouped : (r : ℕ) → r < runsAfter s cells → rootOf (parentOf (linesOf s) ws′) r ≡ rep feedEdges r
+    -- with k = 0 nothing changes
+    pub no-lines : k ≡ 0 → ws′ ≡ ws
+
+  -- the answer, and the record and the words afterwards
+  pub record FeedPromise (a : Answer) (s′ : Session) (ws′ : List ℕ) : Type 0 where
+    pub said : a ≡ unless feedCauseOf (fed (s .fed + k) (figuresOf feedRecord))
+    pub session : s′ ≡ kept feedCauseOf s feedRecord
+    pub refusal : 0 < feedCauseOf → ws′ ≡ ws
+    pub accepted : feedCauseOf ≡ 0 → FeedWords ws′

@@ -1,0 +1,10 @@
+pub mod Lists
+pub mod Words
+pub mod Forest
+pub mod Sound
+pub mod Held
+pub mod Cases
+pub mod Opening
+pub mod Feeding
+pub mod Reading
+pub mod WholeFrame
