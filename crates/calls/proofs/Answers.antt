@@ -1,0 +1,58 @@
+-- One list of calls worked out, refused ones among them: document 01's frame 1, in every cell kind, read into every number kind.
+-- Assumes nothing.
+use mathlib.Core.Path.{_≡_, refl}
+use mathlib.Core.Bool.{false}
+use mathlib.Core.List.{List, [], _∷_}
+use lib.Ieee.{nan, fin}
+use lib.IntN.{pos, negsuc}
+use lib.ListN.{replicate}
+use Rattle.frame.specs.Kinds.{u16, u8s, u16s, i16s, f32s, nz, nzℤ, nzF, flags, u32, u8}
+use Rattle.frame.specs.Plain.{Call, feed, read, sizes, fed, counted, refused, nothing, numbers, counts}
+use Rattle.label.proofs.CallFunctions.{doOpen}
+use Rattle.label.proofs.MeetLaws.{open-met}
+use Rattle.label.proofs.Worked.{computed, frame, cross, memory, f, begun}
+use Rattle.calls.specs.Demand3.{Demand3}
+use Rattle.calls.proofs.Demand3.{demand3}
+use Rattle.calls.proofs.MeetLaws.{Ran, doCalls, calls-met}
+
+calls : List Call
+calls =
+    feed 1 (u8s (1 ∷ 0 ∷ 255 ∷ []))
+    -- more lines than are left; a cell too few
+    ∷ feed 3 (u8s (replicate 9 1))
+    ∷ feed 1 (u16s (1 ∷ 0 ∷ []))
+    ∷ feed 1 (i16s (negsuc 0 ∷ pos 0 ∷ pos 7 ∷ []))
+    -- a reading; one of wrong length; sizes of wrong length
+    ∷ read u8 (replicate 9 5)
+    ∷ read u16 (replicate 8 5)
+    ∷ sizes (5 ∷ [])
+    -- no lines
+    ∷ feed 0 (f32s [])
+    ∷ feed 1 (f32s (nan ∷ fin false 1 (pos 0) ∷ nan ∷ []))
+    ∷ sizes (5 ∷ [])
+    ∷ read u32 (replicate 9 5)
+    ∷ []
+
+ran : Ran
+ran = doCalls (begun .session) (begun .words) calls
+
+answers-right : ran .answers ≡
+    record { said = fed 1 (f 2 0); written = nothing }
+    ∷ record { said = refused 7; written = nothing }
+    ∷ record { said = refused 8; written = nothing }
+    ∷ record { said = fed 2 (f 4 2); written = nothing }
+    ∷ record { said = counted 2 (f 4 2); written = numbers u8 (1 ∷ 0 ∷ 2 ∷ 1 ∷ 0 ∷ 2 ∷ 0 ∷ 0 ∷ 0 ∷ []) }
+    ∷ record { said = refused 9; written = numbers u16 (replicate 8 5) }
+    ∷ record { said = refused 9; written = counts (5 ∷ []) }
+    ∷ record { said = fed 2 (f 4 2); written = nothing }
+    ∷ record { said = fed 3 (f 5 4); written = nothing }
+    ∷ record { said = counted 1 (f 5 4); written = counts (7 ∷ []) }
+    ∷ record { said = counted 1 (f 5 4); written = numbers u32 (1 ∷ 0 ∷ 1 ∷ 1 ∷ 0 ∷ 1 ∷ 1 ∷ 1 ∷ 1 ∷ []) }
+    ∷ []
+unfolding ran calls begun computed doCalls flags nz nzℤ nzF
+answers-right = refl
+
+-- the theorem speaks of it
+demand-met : Demand3 frame cross calls (ran .answers) (ran .session) (ran .words)
+unfolding ran begun
+demand-met = demand3 frame cross memory (doOpen frame cross memory .number) (doOpen frame cross memory .session) (doOpen frame cross memory .words) (open-met frame cross memory) (unfold computed in refl) calls _ _ _ (calls-met _ _ calls)

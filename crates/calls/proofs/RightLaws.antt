@@ -1,0 +1,29 @@
+-- The plain session's own answers: runs = n + joins, and 6 never comes.
+-- Assumes nothing.
+use mathlib.Core.Path.{_≡_, refl, sym, _∙_, subst}
+use mathlib.Core.List.{List, [], _∷_}
+use Prim.Native.Nat.{ℕ, _+_, _-_}
+use Rattle.frame.specs.Kinds.{flags}
+use Rattle.frame.specs.Plain.{Call, feed, read, sizes, fed, unless, State, feeds, groupsOf, figures, cause, answer, next, plain}
+use Rattle.frame.proofs.PlainLaws.{unless-cases, next-feeds, balanced, six-never}
+use Rattle.calls.specs.Demand3.{Balanced, Right, AllRight}
+
+module _ (shape : List ℕ) where
+  pub figures-right : (p : State) → Balanced shape p (figures shape p)
+  unfolding figures groupsOf
+  figures-right p = record { runs-defined = refl; balance = balanced shape p }
+
+  answer-right : (p : State) (c : Call) → cause shape p c ≡ 0 → Right shape (next shape p c) (answer shape p c)
+  unfolding answer feeds groupsOf
+  answer-right p (feed k cells) e =
+      subst (λ (q : State). Right shape q (fed (p .fed + k) (figures shape (feeds p k (flags cells))))) (sym (next-feeds shape p k cells e)) (refl, figures-right (feeds p k (flags cells)))
+  answer-right p (read kind out) e = unfold next in (refl, figures-right p)
+  answer-right p (sizes out) e = unfold next in (refl, figures-right p)
+
+  said-right : (p : State) (c : Call) → Right shape (next shape p c) (unless (cause shape p c) (answer shape p c))
+  said-right p c = unless-cases (Right shape (next shape p c)) (cause shape p c) (answer shape p c) (answer-right p c) (λ d e z. six-never shape p c (e ∙ z))
+
+  pub plain-right : (p : State) (cs : List Call) → AllRight shape p cs (plain shape p cs)
+  unfolding plain
+  plain-right p [] = tt
+  plain-right p (c ∷ cs) = (said-right p c, plain-right (next shape p c) cs)

@@ -1,0 +1,59 @@
+-- Answers and outputs that demand 3's clauses refuse: the cheats of document 01's "For whoever tests it", after two lines of its frame 1.
+-- Assumes nothing.
+use mathlib.Core.Path.{_≡_, refl}
+use mathlib.Core.List.{List, [], _∷_, _++_}
+use Prim.Native.Nat.{ℕ, _<_}
+use native.Mathlib.Omega.{arith}
+use lib.ListN.{getD}
+use Rattle.frame.specs.ChainRule.{label}
+use Rattle.frame.specs.Kinds.{u8}
+use Rattle.frame.specs.Plain.{Answer, fed, counted, refused, State}
+use Rattle.frame.proofs.ChainRuleLaws.{label-right, label-only}
+use Rattle.label.proofs.Worked.{computed, frame, cross, line, f}
+use Rattle.calls.specs.Demand3.{Right, Reads, Sizes}
+
+abbrev two : State
+two = record { structure = cross; fed = 2; cells = line ++ line }
+
+-- joins padded with idle unions; runs invented with them; runs counted as n; 6
+padded-joins : Right frame two (fed 2 (f 4 3)) → ⊥
+unfolding computed
+padded-joins P = let z : _≡_ {A = ℕ} 4 5 = P .1 .balance in omega arith
+
+invented-runs : Right frame two (fed 2 (f 5 3)) → ⊥
+unfolding computed
+invented-runs P = let z : _≡_ {A = ℕ} 5 4 = P .1 .runs-defined in omega arith
+
+runs-as-n : Right frame two (counted 4 (f 4 0)) → ⊥
+unfolding computed
+runs-as-n P = let z : _≡_ {A = ℕ} 4 2 = P .0 in omega arith
+
+six : Right frame two (refused 6) → ⊥
+six P = P refl
+
+-- a cell's number is the one that the chain rule gives it
+number-is : (a : Answer) (out : List ℕ) → Reads frame two u8 a out → (q : ℕ) → q < 9 → getD out q 0 ≡ label frame cross (line ++ line) q
+unfolding computed
+number-is a out R q h = label-only frame cross (line ++ line) 2 (λ q. getD out q 0) (R .labelled) q h
+
+-- all nonzero cells are numbered 1; each run apart; numbers do not come by first appearance; unfed cells are left as they were
+all-one : (a : Answer) → Reads frame two u8 a (1 ∷ 0 ∷ 1 ∷ 1 ∷ 0 ∷ 1 ∷ 0 ∷ 0 ∷ 0 ∷ []) → ⊥
+unfolding computed
+all-one a R = let z : _≡_ {A = ℕ} 1 2 = number-is a _ R 2 (omega arith) in omega arith
+
+each-apart : (a : Answer) → Reads frame two u8 a (1 ∷ 0 ∷ 2 ∷ 3 ∷ 0 ∷ 4 ∷ 0 ∷ 0 ∷ 0 ∷ []) → ⊥
+unfolding computed
+each-apart a R = let z : _≡_ {A = ℕ} 3 1 = number-is a _ R 3 (omega arith) in omega arith
+
+out-of-order : (a : Answer) → Reads frame two u8 a (2 ∷ 0 ∷ 1 ∷ 2 ∷ 0 ∷ 1 ∷ 0 ∷ 0 ∷ 0 ∷ []) → ⊥
+unfolding computed
+out-of-order a R = let z : _≡_ {A = ℕ} 2 1 = number-is a _ R 0 (omega arith) in omega arith
+
+leaves-unfed : (a : Answer) → Reads frame two u8 a (1 ∷ 0 ∷ 2 ∷ 1 ∷ 0 ∷ 2 ∷ 5 ∷ 5 ∷ 5 ∷ []) → ⊥
+unfolding computed
+leaves-unfed a R = let z : _≡_ {A = ℕ} 5 0 = number-is a _ R 6 (omega arith) in omega arith
+
+-- the sizes of numbers 0 and 1, in place of 1 and 2
+shifted : (a : Answer) → Sizes frame two a (5 ∷ 2 ∷ []) → ⊥
+unfolding computed
+shifted a S = let z : _≡_ {A = ℕ} 5 2 = S .counts (label frame cross (line ++ line)) (label-right frame cross (line ++ line)) 1 (omega arith) (omega arith) in omega arith
