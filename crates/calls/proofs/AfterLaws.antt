@@ -12,10 +12,10 @@ use Rattle.groups.specs.Groups.{count}
 use Rattle.groups.proofs.CountLaws.{count-same}
 use Rattle.groups.proofs.NumberLaws.{numbered-same}
 use Rattle.frame.specs.Shape.{size}
-use Rattle.frame.specs.ChainRule.{Labelled, groupCount, range, labels, sizeOf, sizesOf}
+use Rattle.frame.specs.ChainRule.{Labelled, groupCount, label, range, labels, sizeOf, sizesOf}
 use Rattle.frame.specs.Kinds.{Number, largest, holds, Value, write, value}
-use Rattle.frame.specs.Plain.{sizes, Answer, counted, groupsOf, figures, cause}
-use Rattle.frame.proofs.ChainRuleLaws.{label-only, length-range, getD-range, getD-map, length-labels, labels-right}
+use Rattle.frame.specs.Plain.{Answer, counted, State, groupsOf, cause}
+use Rattle.frame.proofs.ChainRuleLaws.{label-only, length-range, length-labels, labels-right}
 use Rattle.frame.proofs.KindLaws.{value-write}
 use Rattle.frame.proofs.CauseLaws.{accepted-read, accepted-sizes}
 use Rattle.frame.proofs.PlainLaws.{unless-none, kept-new}
@@ -23,10 +23,16 @@ use Rattle.label.specs.declared.Session.{Session}
 use Rattle.label.specs.Words.{shapeOf, structureOf}
 use Rattle.label.specs.Held.{figuresOf, cellsOf, rootCount, numbersHeld, sizesHeld}
 use Rattle.label.specs.Reading.{countedOf, readCauseOf, ReadPromise, sizesCauseOf, SizesPromise}
+use Rattle.label.proofs.ListLaws.{listed-from}
 use Rattle.label.proofs.Invariant.{stateOf, Inv, inv-n, inv-figures, inv-numbers, inv-sizes}
 use Rattle.label.proofs.KeepLaws.{read-cause, sizes-cause}
 use Rattle.calls.specs.Demand3.{Balanced, Reads, Sizes, Afterwards}
 use Rattle.calls.proofs.RightLaws.{figures-right}
+
+-- a reading that is right gives each cell the number that the chain rule does
+pub number-is : (shape : List ℕ) (p : State) (kind : Number) (a : Answer) (out : List (Value kind)) → Reads shape p kind a out → (q : ℕ) → q < size shape
+    → value kind (getD out q (write kind 0)) ≡ label shape (p .structure) (p .cells) q
+number-is shape p kind a out R = label-only shape (p .structure) (p .cells) (groupCount shape (p .structure) (p .cells)) (λ q. value kind (getD out q (write kind 0))) (R .labelled)
 
 module _ (s : Session) (ws : List ℕ) (I : Inv s ws) where
   abbrev shape : List ℕ
@@ -48,26 +54,26 @@ module _ (s : Session) (ws : List ℕ) (I : Inv s ws) where
   figures-held : Balanced shape (stateOf s ws) (figuresOf s)
   figures-held = subst (Balanced shape (stateOf s ws)) (sym (inv-figures s ws I)) (figures-right shape (stateOf s ws))
 
-  read-goes : (kind : Number) (out : List (Value kind)) → length out ≡ size shape → n ≤ largest kind → readCauseOf kind s ws (length out) ≡ 0
-  read-goes kind out e h = read-cause s ws I kind out ∙ (unfold cause groupsOf holds in accepted-read (length out) (size shape) (leb n (largest kind)) e (le-leb n (largest kind) h))
+  read-is-accepted : (kind : Number) (out : List (Value kind)) → length out ≡ size shape → n ≤ largest kind → readCauseOf kind s ws (length out) ≡ 0
+  read-is-accepted kind out e h = read-cause s ws I kind out ∙ (unfold cause groupsOf holds in accepted-read (length out) (size shape) (leb n (largest kind)) e (le-leb n (largest kind) h))
 
   reads : (kind : Number) (out : List (Value kind)) → length out ≡ size shape → n ≤ largest kind
       → (a : Answer) (s′ : Session) (ws′ : List ℕ) (out′ : List (Value kind)) → ReadPromise kind s ws out a s′ ws′ out′ → Reads shape (stateOf s ws) kind a out′
   reads kind out e h a s′ ws′ out′ P = record {
     figures = figuresOf s;
     balanced = figures-held;
-    accepted = P .said ∙ unless-none (readCauseOf kind s ws (length out)) (countedOf s ws) goes ∙ ap (λ (m : ℕ). counted m (figuresOf s)) n-right;
+    accepted = P .said ∙ unless-none (readCauseOf kind s ws (length out)) (countedOf s ws) no-cause ∙ ap (λ (m : ℕ). counted m (figuresOf s)) n-right;
     long = ap length wrote ∙ length-map (labels shape structure cells) (write kind) ∙ length-labels shape structure cells;
     labelled = numbered-same (λ q. getD (labels shape structure cells) q 0) (λ q. value kind (getD out′ q (write kind 0)))
         (λ q l. sym (ap (λ (o : List (Value kind)). value kind (getD o q (write kind 0))) wrote ∙ ap (value kind) (List·getD-map (write kind) (labels shape structure cells) q 0) ∙ value-write kind (getD (labels shape structure cells) q 0)))
         (labels-right shape structure cells);
   }
     where
-      goes : readCauseOf kind s ws (length out) ≡ 0
-      goes = read-goes kind out e h
+      no-cause : readCauseOf kind s ws (length out) ≡ 0
+      no-cause = read-is-accepted kind out e h
 
       wrote : out′ ≡ map (write kind) (labels shape structure cells)
-      wrote = P .output ∙ kept-new out (numbersHeld s ws kind) (readCauseOf kind s ws (length out)) goes ∙ inv-numbers s ws I kind
+      wrote = P .output ∙ kept-new out (numbersHeld s ws kind) (readCauseOf kind s ws (length out)) no-cause ∙ inv-numbers s ws I kind
 
   long : length (sizesOf shape structure cells) ≡ n
   unfolding sizesOf
@@ -77,31 +83,30 @@ module _ (s : Session) (ws : List ℕ) (I : Inv s ws) where
   unfolding sizesOf
   size-at g low high =
       let e : 1 + (g - 1) ≡ g = omega arith in
-      getD-map (sizeOf shape structure cells) (range 1 n) (g - 1) 0 (rw (length-range 1 n) (omega arith))
-      ∙ ap (sizeOf shape structure cells) (getD-range 1 n (g - 1) 0 (omega arith) ∙ e)
+      listed-from (sizeOf shape structure cells) 1 n (g - 1) 0 (omega arith) ∙ ap (sizeOf shape structure cells) e
 
   same-size : (ν : ℕ → ℕ) → Labelled shape structure cells n ν → (g : ℕ) → sizeOf shape structure cells g ≡ count (λ q. eqb (ν q) g) (size shape)
   unfolding sizeOf
   same-size ν N g = count-same _ _ (size shape) (λ q l. ap (λ (m : ℕ). eqb m g) (sym (label-only shape structure cells n ν N q l)))
 
-  sizes-goes : (out : List ℕ) → length out ≡ n → sizesCauseOf s ws (length out) ≡ 0
-  sizes-goes out e = sizes-cause s ws I out ∙ (unfold cause groupsOf in accepted-sizes (length out) n e)
+  sizes-is-accepted : (out : List ℕ) → length out ≡ n → sizesCauseOf s ws (length out) ≡ 0
+  sizes-is-accepted out e = sizes-cause s ws I out ∙ (unfold cause groupsOf in accepted-sizes (length out) n e)
 
   sized : (out : List ℕ) → length out ≡ n → (a : Answer) (s′ : Session) (ws′ out′ : List ℕ) → SizesPromise s ws out a s′ ws′ out′
       → Sizes shape (stateOf s ws) a out′
   sized out e a s′ ws′ out′ P = record {
     figures = figuresOf s;
     balanced = figures-held;
-    accepted = P .said ∙ unless-none (sizesCauseOf s ws (length out)) (countedOf s ws) goes ∙ ap (λ (m : ℕ). counted m (figuresOf s)) n-right;
+    accepted = P .said ∙ unless-none (sizesCauseOf s ws (length out)) (countedOf s ws) no-cause ∙ ap (λ (m : ℕ). counted m (figuresOf s)) n-right;
     long = ap length wrote ∙ long;
     counts = λ ν N g low high. ap (λ (l : List ℕ). getD l (g - 1) 0) wrote ∙ size-at g low high ∙ same-size ν N g;
   }
     where
-      goes : sizesCauseOf s ws (length out) ≡ 0
-      goes = sizes-goes out e
+      no-cause : sizesCauseOf s ws (length out) ≡ 0
+      no-cause = sizes-is-accepted out e
 
       wrote : out′ ≡ sizesOf shape structure cells
-      wrote = P .output ∙ kept-new out (sizesHeld s ws) (sizesCauseOf s ws (length out)) goes ∙ inv-sizes s ws I
+      wrote = P .output ∙ kept-new out (sizesHeld s ws) (sizesCauseOf s ws (length out)) no-cause ∙ inv-sizes s ws I
 
   pub afterwards : Afterwards shape (stateOf s ws) s ws
   afterwards = record { reads = reads; sizes = sized }

@@ -1,4 +1,4 @@
--- One list of calls worked out, refused ones among them: document 01's frame 1, in every cell kind, read into every number kind.
+-- One list of calls worked out, refused ones among them: document 01's frame 1, by calls of every cell and number kind.
 -- Assumes nothing.
 use mathlib.Core.Path.{_≡_, refl}
 use mathlib.Core.Bool.{false}
@@ -22,9 +22,10 @@ calls =
     ∷ feed 3 (u8s (replicate 9 1))
     ∷ feed 1 (u16s (1 ∷ 0 ∷ []))
     ∷ feed 1 (i16s (negsuc 0 ∷ pos 0 ∷ pos 7 ∷ []))
-    -- a reading; one of wrong length; sizes of wrong length
+    -- readings, one of wrong length; sizes of wrong length
     ∷ read u8 (replicate 9 5)
     ∷ read u16 (replicate 8 5)
+    ∷ read u16 (replicate 9 5)
     ∷ sizes (5 ∷ [])
     -- no lines
     ∷ feed 0 (f32s [])
@@ -43,6 +44,7 @@ answers-right : ran .answers ≡
     ∷ record { said = fed 2 (f 4 2); written = nothing }
     ∷ record { said = counted 2 (f 4 2); written = numbers u8 (1 ∷ 0 ∷ 2 ∷ 1 ∷ 0 ∷ 2 ∷ 0 ∷ 0 ∷ 0 ∷ []) }
     ∷ record { said = refused 9; written = numbers u16 (replicate 8 5) }
+    ∷ record { said = counted 2 (f 4 2); written = numbers u16 (1 ∷ 0 ∷ 2 ∷ 1 ∷ 0 ∷ 2 ∷ 0 ∷ 0 ∷ 0 ∷ []) }
     ∷ record { said = refused 9; written = counts (5 ∷ []) }
     ∷ record { said = fed 2 (f 4 2); written = nothing }
     ∷ record { said = fed 3 (f 5 4); written = nothing }

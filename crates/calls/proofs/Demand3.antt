@@ -2,7 +2,7 @@
 -- Assumes nothing.
 use mathlib.Core.Path.{_≡_, sym, ap₂, _∙_, subst}
 use mathlib.Core.List.{List}
-use Prim.Native.Nat.{ℕ, _-_}
+use Prim.Native.Nat.{ℕ}
 use Rattle.frame.specs.Plain.{Call, Answered, State, opened, plain, after}
 use Rattle.label.specs.declared.Session.{Session}
 use Rattle.label.specs.Words.{shapeOf}

@@ -1,5 +1,4 @@
--- Every list of calls, on every record and words, has a trace: the plain calls, one after the other. So the theorem speaks of
--- something for every list.
+-- Every list of calls, on every record and words, has a trace: the plain functions, one after the other.
 -- Assumes nothing.
 use mathlib.Core.List.{List, [], _∷_}
 use Prim.Native.Nat.{ℕ}

@@ -2,7 +2,7 @@
 -- Assumes nothing.
 use mathlib.Core.Path.{_≡_, refl, sym, _∙_, subst}
 use mathlib.Core.List.{List, [], _∷_}
-use Prim.Native.Nat.{ℕ, _+_, _-_}
+use Prim.Native.Nat.{ℕ, _+_}
 use Rattle.frame.specs.Kinds.{flags}
 use Rattle.frame.specs.Plain.{Call, feed, read, sizes, fed, unless, State, feeds, groupsOf, figures, cause, answer, next, plain}
 use Rattle.frame.proofs.PlainLaws.{unless-cases, next-feeds, balanced, six-never}

@@ -1,13 +1,15 @@
--- A list of calls is answered as by the plain session, from the state that the record holds.
+-- A list of calls is answered as by the plain session, from the state that the record holds; and words that are u32s stay so.
 -- Assumes nothing.
 use mathlib.Core.Path.{_≡_, refl, ap₂, _∙_}
 use mathlib.Core.List.{List, _∷_}
-use Prim.Native.Nat.{ℕ, _-_}
+use Prim.Native.Nat.{ℕ}
+use Rattle.frame.specs.Kinds.{flags}
 use Rattle.frame.specs.Plain.{Call, feed, read, sizes, Answered, State, plain, after}
 use Rattle.label.specs.declared.Session.{Session}
 use Rattle.label.specs.Words.{shapeOf}
 use Rattle.label.proofs.Invariant.{stateOf, Inv}
 use Rattle.label.proofs.KeepLaws.{Follows, feed-follows, read-follows, sizes-follows}
+use Rattle.label.proofs.FitLaws.{Words32, feed-words-fit, read-words-fit, sizes-words-fit}
 use Rattle.calls.specs.Trace.{Trace, stop, by-feed, by-read, by-sizes}
 
 pub record FollowsAll (s : Session) (ws : List ℕ) (cs : List Call) (az : List Answered) (s′ : Session) (ws′ : List ℕ) : Type 0 where
@@ -38,3 +40,11 @@ follows (by-read {s = s} {s′ = s′} {s″ = s″} {ws = ws} {ws′ = ws′} {
 follows (by-sizes {s = s} {s′ = s′} {s″ = s″} {ws = ws} {ws′ = ws′} {ws″ = ws″} {out = out} {out′ = out′} {a = a} {cs = cs} {az = az} P T) I =
     let F = sizes-follows s ws I out a s′ ws′ out′ P in
     more s s′ s″ ws ws′ ws″ (sizes out) cs _ az F (follows T (F .keeps))
+
+-- ---- words that are u32s stay so, whatever is called
+
+pub trace-fits : {s s′ : Session} {ws ws′ : List ℕ} {cs : List Call} {az : List Answered} → Trace s ws cs az s′ ws′ → Words32 ws → Words32 ws′
+trace-fits stop fits = fits
+trace-fits (by-feed {s = s} {s′ = s′} {ws = ws} {ws′ = ws′} {k = k} {cells = cells} {a = a} P T) fits = trace-fits T (feed-words-fit s ws k (flags cells) a s′ ws′ P fits)
+trace-fits (by-read {s = s} {s′ = s′} {ws = ws} {ws′ = ws′} {kind = kind} {out = out} {out′ = out′} {a = a} P T) fits = trace-fits T (read-words-fit kind s ws out a s′ ws′ out′ P fits)
+trace-fits (by-sizes {s = s} {s′ = s′} {ws = ws} {ws′ = ws′} {out = out} {out′ = out′} {a = a} P T) fits = trace-fits T (sizes-words-fit s ws out a s′ ws′ out′ P fits)

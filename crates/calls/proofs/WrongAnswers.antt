@@ -1,17 +1,18 @@
--- Answers and outputs that demand 3's clauses refuse: the cheats of document 01's "For whoever tests it", after two lines of its frame 1.
+-- Answers and outputs that demand 3's clauses refuse: those cheats of document 01's "For whoever tests it" that show in an answer.
 -- Assumes nothing.
 use mathlib.Core.Path.{_≡_, refl}
-use mathlib.Core.List.{List, [], _∷_, _++_}
-use Prim.Native.Nat.{ℕ, _<_}
+use mathlib.Core.List.{[], _∷_, _++_}
+use Prim.Native.Nat.{ℕ}
 use native.Mathlib.Omega.{arith}
-use lib.ListN.{getD}
 use Rattle.frame.specs.ChainRule.{label}
 use Rattle.frame.specs.Kinds.{u8}
 use Rattle.frame.specs.Plain.{Answer, fed, counted, refused, State}
-use Rattle.frame.proofs.ChainRuleLaws.{label-right, label-only}
+use Rattle.frame.proofs.ChainRuleLaws.{label-right}
 use Rattle.label.proofs.Worked.{computed, frame, cross, line, f}
 use Rattle.calls.specs.Demand3.{Right, Reads, Sizes}
+use Rattle.calls.proofs.AfterLaws.{number-is}
 
+-- after two lines of document 01's frame 1
 abbrev two : State
 two = record { structure = cross; fed = 2; cells = line ++ line }
 
@@ -31,27 +32,22 @@ runs-as-n P = let z : _≡_ {A = ℕ} 4 2 = P .0 in omega arith
 six : Right frame two (refused 6) → ⊥
 six P = P refl
 
--- a cell's number is the one that the chain rule gives it
-number-is : (a : Answer) (out : List ℕ) → Reads frame two u8 a out → (q : ℕ) → q < 9 → getD out q 0 ≡ label frame cross (line ++ line) q
-unfolding computed
-number-is a out R q h = label-only frame cross (line ++ line) 2 (λ q. getD out q 0) (R .labelled) q h
-
 -- all nonzero cells are numbered 1; each run apart; numbers do not come by first appearance; unfed cells are left as they were
 all-one : (a : Answer) → Reads frame two u8 a (1 ∷ 0 ∷ 1 ∷ 1 ∷ 0 ∷ 1 ∷ 0 ∷ 0 ∷ 0 ∷ []) → ⊥
 unfolding computed
-all-one a R = let z : _≡_ {A = ℕ} 1 2 = number-is a _ R 2 (omega arith) in omega arith
+all-one a R = let z : _≡_ {A = ℕ} 1 2 = number-is frame two u8 a _ R 2 (omega arith) in omega arith
 
 each-apart : (a : Answer) → Reads frame two u8 a (1 ∷ 0 ∷ 2 ∷ 3 ∷ 0 ∷ 4 ∷ 0 ∷ 0 ∷ 0 ∷ []) → ⊥
 unfolding computed
-each-apart a R = let z : _≡_ {A = ℕ} 3 1 = number-is a _ R 3 (omega arith) in omega arith
+each-apart a R = let z : _≡_ {A = ℕ} 3 1 = number-is frame two u8 a _ R 3 (omega arith) in omega arith
 
 out-of-order : (a : Answer) → Reads frame two u8 a (2 ∷ 0 ∷ 1 ∷ 2 ∷ 0 ∷ 1 ∷ 0 ∷ 0 ∷ 0 ∷ []) → ⊥
 unfolding computed
-out-of-order a R = let z : _≡_ {A = ℕ} 2 1 = number-is a _ R 0 (omega arith) in omega arith
+out-of-order a R = let z : _≡_ {A = ℕ} 2 1 = number-is frame two u8 a _ R 0 (omega arith) in omega arith
 
 leaves-unfed : (a : Answer) → Reads frame two u8 a (1 ∷ 0 ∷ 2 ∷ 1 ∷ 0 ∷ 2 ∷ 5 ∷ 5 ∷ 5 ∷ []) → ⊥
 unfolding computed
-leaves-unfed a R = let z : _≡_ {A = ℕ} 5 0 = number-is a _ R 6 (omega arith) in omega arith
+leaves-unfed a R = let z : _≡_ {A = ℕ} 5 0 = number-is frame two u8 a _ R 6 (omega arith) in omega arith
 
 -- the sizes of numbers 0 and 1, in place of 1 and 2
 shifted : (a : Answer) → Sizes frame two a (5 ∷ 2 ∷ []) → ⊥

@@ -1,5 +1,4 @@
--- What demand 3 asks of every list of calls from an accepted opening, clause by clause. That it holds is proved in
--- proofs/Demand3.antt.
+-- What demand 3 asks of every list of calls from an accepted opening, clause by clause. proofs/Demand3.antt proves it.
 -- Assumes nothing.
 use mathlib.Core.Path.{_≡_}
 use mathlib.Core.Logic.{_≢_}
@@ -18,17 +17,21 @@ use Rattle.label.specs.Reading.{ReadPromise, SizesPromise}
 
 -- p is a state of the plain session: its structure, and the lines fed by then
 module _ (shape : List ℕ) where
+  -- document 01's n for those lines
+  abbrev groupsIn : State → ℕ
+  groupsIn p = groupCount shape (p .structure) (p .cells)
+
   -- ---- every answer of the list
 
   -- "In every accepted answer runs = n + joins, runs and n being those document 01 defines for the lines fed by then"
   pub record Balanced (p : State) (f : Figures) : Type 0 where
     pub runs-defined : f .runs ≡ runs shape (p .structure) (p .cells)
-    pub balance : f .runs ≡ groupCount shape (p .structure) (p .cells) + f .joins
+    pub balance : f .runs ≡ groupsIn p + f .joins
 
   -- so of a feed's answer, which has the lines fed, and of a reading's or size call's, which has n. Of a refusal: 6 never comes
   abbrev pub Right : State → Answer → Type 0
   Right p (fed l f) = (l ≡ p .fed) × Balanced p f
-  Right p (counted n f) = (n ≡ groupCount shape (p .structure) (p .cells)) × Balanced p f
+  Right p (counted n f) = (n ≡ groupsIn p) × Balanced p f
   Right p (refused c) = c ≢ 6
 
   -- each answer, with the lines fed by then
@@ -42,7 +45,7 @@ module _ (shape : List ℕ) where
 
   module _ (p : State) where
     abbrev n : ℕ
-    n = groupCount shape (p .structure) (p .cells)
+    n = groupsIn p
 
     -- "a reading of exact length into a kind that holds n is accepted and gives 0 to zero and unfed cells. It gives one number to two
     -- fed nonzero cells exactly when a chain of fed nonzero cells joins them, each step a backward structure offset taken either way.

@@ -8,9 +8,8 @@ use Rattle.label.specs.declared.Session.{Session}
 use Rattle.label.specs.Feeding.{FeedPromise}
 use Rattle.label.specs.Reading.{ReadPromise, SizesPromise}
 
--- The calls lead from a record and words to a record and words, and are answered so. `Call` (crate frame) has the arguments: a feed
--- of any cell kind, a reading into any number kind, a size call, of any length and content. Of each call exactly what it promises
--- is known, by the name that its contract has
+-- The calls lead from a record and words to a record and words, and are answered so. Of each call exactly what it promises is known,
+-- by the name that its contract will have. `Call` (crate frame) has the arguments, of any kind, length and content
 pub data Trace : Session → List ℕ → List Call → List Answered → Session → List ℕ → Type 0 where
   stop : {s : Session} {ws : List ℕ} → Trace s ws [] [] s ws
   by-feed : {s s′ s″ : Session} {ws ws′ ws″ : List ℕ} {k : ℕ} {cells : Cells} {a : Answer} {cs : List Call} {az : List Answered}

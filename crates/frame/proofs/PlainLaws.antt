@@ -11,7 +11,6 @@ use borrow.Author.Tests.{eqb-true, ne-eqb}
 use lib.Dec.{eqb}
 use lib.ListN.{length, length-append}
 use Rattle.frame.specs.Shape.{size, width, lines}
-use Rattle.frame.specs.Runs.{runs}
 use Rattle.frame.specs.Kinds.{Cells, flags, holds}
 use Rattle.frame.specs.Plain.{Call, feed, read, sizes, Answer, refused, unless, kept, State, opened, feeds, groupsOf, figures, cause, next, after}
 use Rattle.frame.proofs.ShapeLaws.{Fits}

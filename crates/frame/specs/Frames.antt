@@ -7,9 +7,8 @@ use lib.IntN.{pos, negsuc}
 use lib.Ieee.{nan, inf, fin}
 use lib.ListN.{replicate}
 use Rattle.frame.specs.Shape.{size, leading, lines}
-use Rattle.frame.specs.Runs.{runs}
 use Rattle.frame.specs.Kinds.{u8s, u16s, i16s, f32s, Number, u8, u16, u32, Value}
-use Rattle.frame.specs.Plain.{Call, feed, read, sizes, fed, counted, refused, nothing, numbers, counts, Answered, written, session}
+use Rattle.frame.specs.Plain.{Call, feed, read, sizes, fed, counted, refused, nothing, numbers, counts, Answered, session}
 
 -- a session: shape, structure, count of words and calls, with what is answered and written
 pub record Frame : Type 0 where

@@ -64,7 +64,7 @@ unfoldable pub lineRuns : Bool → List Bool → List Run
 lineRuns true l = stretches false 0 0 l
 lineRuns false l = singles 0 l
 
--- how many columns at least lie between two runs of a line: with the left byte nonzero two that touch would be one
+-- how many columns at least lie between two runs of a line: with the left byte nonzero two with none between would be one
 unfoldable pub gapOf : Bool → ℕ
 gapOf left = cond left 1 0
 

@@ -28,3 +28,8 @@ or-right false b h = h
 pub or-cases : (a b : Bool) → (a || b) ≡ true → (a ≡ true) ⊎ (b ≡ true)
 or-cases true b h = inl refl
 or-cases false b h = inr h
+
+pub or₃-false : (a b c : Bool) → (a || (b || c)) ≡ false → (a ≡ false) × (b ≡ false) × (c ≡ false)
+or₃-false false false c h = (refl, refl, h)
+or₃-false false true c h = absurd (true≢false h)
+or₃-false true b c h = absurd (true≢false h)

@@ -1,7 +1,7 @@
 -- `number` numbers the groups, and nothing else does.
 -- Assumes nothing.
-use mathlib.Core.Path.{_≡_, refl, sym, ap, ap₂, _∙_, subst}
-use mathlib.Core.Bool.{Bool, true, false, cond, _&&_}
+use mathlib.Core.Path.{_≡_, refl, sym, ap, _∙_, subst}
+use mathlib.Core.Bool.{Bool, true, false, _&&_}
 use mathlib.Core.List.{List}
 use Prim.Native.Nat.{ℕ, zero, suc, _≤_, _<_}
 use native.Mathlib.Nat.{le-refl, le-antisymm, lt-of-le-of-lt, lt-of-lt-of-le, not-suc-le-zero}
@@ -13,7 +13,6 @@ use Rattle.groups.specs.Numbers.{First, Numbered, number}
 use Rattle.groups.proofs.BoolLaws.{and-true, and-left, and-right}
 use Rattle.groups.proofs.CountLaws.{count-on, count-mono, count-less, count-reach}
 use Rattle.groups.proofs.RepLaws.{linked-sym, linked-rep, rep-linked, rep-right, rep-rep, rep-le, rep-least, Ends, linked-ends}
-use Rattle.groups.proofs.GroupLaws.{groups-over}
 
 module _ (live : ℕ → Bool) (es : List Edge) (live-ends : Ends (λ a. live a ≡ true) es) where
   begins : ℕ → Bool
@@ -138,10 +137,6 @@ module _ (live : ℕ → Bool) (es : List Edge) (live-ends : Ends (λ a. live a 
 
   pub count-unique : (size n m : ℕ) (ν μ : ℕ → ℕ) → Numbered live (Joined es) size n ν → Numbered live (Joined es) size m μ → n ≡ m
   count-unique size n m ν μ N M = le-antisymm (count-at-most size n m ν μ N M) (count-at-most size m n μ ν M N)
-
-pub number-over : (live : ℕ → Bool) (es fs : List Edge) (p : ℕ) → ((a : ℕ) → rep es a ≡ rep fs a) → number live es p ≡ number live fs p
-unfolding number
-number-over live es fs p h = ap₂ (λ (x : ℕ) (y : ℕ). cond (live p) (groups live es (suc x)) y) (h p) refl ∙ ap (λ (k : ℕ). cond (live p) k 0) (groups-over live es fs (suc (rep fs p)) h)
 
 -- a numbering goes over to a relation that leads the same ways
 module _ {R S : ℕ → ℕ → Type 0} (f : (a b : ℕ) → Chain R a b → Chain S a b) (g : (a b : ℕ) → Chain S a b → Chain R a b) where

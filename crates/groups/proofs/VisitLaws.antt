@@ -8,7 +8,7 @@ use Prim.Native.Nat.{ℕ, _+_}
 use native.Mathlib.Omega.{arith}
 use lib.Dec.{eqb}
 use Rattle.groups.specs.Groups.{Edge, Joined, rep, joins, visit}
-use Rattle.groups.proofs.RepLaws.{rep-same, Ends}
+use Rattle.groups.proofs.RepLaws.{Ends}
 
 pub visit-append : (xs ys old : List Edge) → visit (xs ++ ys) old ≡ visit ys (visit xs old)
 unfolding visit
@@ -64,10 +64,6 @@ module _ (es old : List Edge) where
   pub joined-visit : (a b : ℕ) → Joined (es ++ old) a b → Joined (visit es old) a b
   joined-visit a b (inl m) = inl (back m)
   joined-visit a b (inr m) = inr (back m)
-
-  -- the order of the visits does not matter
-  pub rep-visit : (a : ℕ) → rep (visit es old) a ≡ rep (es ++ old) a
-  rep-visit a = rep-same (visit es old) (es ++ old) visit-joined joined-visit a
 
 -- ---- only the grouping so far matters
 

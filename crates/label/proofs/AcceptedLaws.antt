@@ -19,35 +19,35 @@ use Rattle.label.specs.Feeding.{feedRecord, feedCauseOf, FeedWords, Feed
 use Rattle.label.proofs.SoundLaws.{sound-right, right-sound}
 
 -- a sound record, lines that the frame still has, and their cells
-pub record Goes (s : Session) (ws : List ℕ) (k : ℕ) (cells : List Bool) : Type 0 where
+pub record Accepted (s : Session) (ws : List ℕ) (k : ℕ) (cells : List Bool) : Type 0 where
   pub is-sound : Sound s ws
   pub few : k ≤ linesOf s - s .fed
   pub whole : length cells ≡ k * width (shapeOf s)
 
 module _ (s : Session) (ws : List ℕ) (k : ℕ) (cells : List Bool) where
   -- a feed has no cause exactly then
-  pub feed-goes : feedCauseOf s ws k cells ≡ 0 → Goes s ws k cells
-  feed-goes e =
+  pub cause-accepted : feedCauseOf s ws k cells ≡ 0 → Accepted s ws k cells
+  cause-accepted e =
       let h = feed-accepted (sound s ws) (linesOf s - s .fed) k (width (shapeOf s)) (length cells) (unfold feedCauseOf in e) in
       record { is-sound = sound-right s ws (h .0); few = h .1; whole = h .2 }
 
-  pub goes-feed : Goes s ws k cells → feedCauseOf s ws k cells ≡ 0
+  pub accepted-cause : Accepted s ws k cells → feedCauseOf s ws k cells ≡ 0
   unfolding feedCauseOf
-  goes-feed G = rw (right-sound s ws (G .is-sound)) (accepted-feed (linesOf s - s .fed) k (width (shapeOf s)) (length cells) (G .few) (G .whole))
+  accepted-cause G = rw (right-sound s ws (G .is-sound)) (accepted-feed (linesOf s - s .fed) k (width (shapeOf s)) (length cells) (G .few) (G .whole))
 
   -- the new cells are those of k lines
-  pub goes-fits : Goes s ws k cells → Fits (shapeOf s) k cells
-  goes-fits G = record { ranked = rank-right (shapeOf s) (G .is-sound .ranked) .0; below = omega (arith, G .few); whole = G .whole }
+  pub accepted-fits : Accepted s ws k cells → Fits (shapeOf s) k cells
+  accepted-fits G = record { ranked = rank-right (shapeOf s) (G .is-sound .ranked) .0; below = omega (arith, G .few); whole = G .whole }
 
   -- its record is known, and the words are what is left to promise
-  pub goes-session : Goes s ws k cells → (a : Answer) (s′ : Session) (ws′ : List ℕ) → FeedPromise s ws k cells a s′ ws′ → s′ ≡ feedRecord s ws k cells
-  goes-session G a s′ ws′ P = P .session ∙ kept-new s (feedRecord s ws k cells) (feedCauseOf s ws k cells) (goes-feed G)
+  pub accepted-session : Accepted s ws k cells → (a : Answer) (s′ : Session) (ws′ : List ℕ) → FeedPromise s ws k cells a s′ ws′ → s′ ≡ feedRecord s ws k cells
+  accepted-session G a s′ ws′ P = P .session ∙ kept-new s (feedRecord s ws k cells) (feedCauseOf s ws k cells) (accepted-cause G)
 
-  pub goes-promise : Goes s ws k cells → (ws′ : List ℕ) → FeedWords s ws k cells ws′
+  pub accepted-promise : Accepted s ws k cells → (ws′ : List ℕ) → FeedWords s ws k cells ws′
       → FeedPromise s ws k cells (fed (s .fed + k) (figuresOf (feedRecord s ws k cells))) (feedRecord s ws k cells) ws′
-  goes-promise G ws′ W = record {
-    said = sym (unless-none (feedCauseOf s ws k cells) (fed (s .fed + k) (figuresOf (feedRecord s ws k cells))) (goes-feed G));
-    session = sym (kept-new s (feedRecord s ws k cells) (feedCauseOf s ws k cells) (goes-feed G));
-    refusal = λ h. absurd (omega (arith, goes-feed G));
+  accepted-promise G ws′ W = record {
+    said = sym (unless-none (feedCauseOf s ws k cells) (fed (s .fed + k) (figuresOf (feedRecord s ws k cells))) (accepted-cause G));
+    session = sym (kept-new s (feedRecord s ws k cells) (feedCauseOf s ws k cells) (accepted-cause G));
+    refusal = λ h. absurd (omega (arith, accepted-cause G));
     accepted = λ e. W;
   }

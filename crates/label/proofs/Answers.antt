@@ -5,9 +5,6 @@ use mathlib.Core.Bool.{true, false}
 use mathlib.Core.List.{List, [], _∷_, _++_, map}
 use Prim.Native.Nat.{ℕ}
 use lib.ListN.{set, replicate, take}
-use Rattle.groups.specs.Groups.{joins}
-use Rattle.groups.specs.Numbers.{number}
-use Rattle.frame.specs.Runs.{runs}
 use Rattle.frame.specs.Kinds.{u16, u32, u8}
 use Rattle.frame.specs.Plain.{Answer, fed, counted, refused}
 use Rattle.label.specs.declared.Cause.the-variants as C
@@ -108,7 +105,7 @@ unsound =
     ∷ (record { rank = 5; shape = replicate 4 1; structure = replicate 81 0; fed = 0; runs = 0; joins = 0 }, replicate 28 0)
     -- a leading dimension is 0
     ∷ (openRecord (0 ∷ 3 ∷ []) cross, replicate 28 0)
-    -- w, L and L × w at their limits
+    -- w and L at their limits, L × w one above
     ∷ (openRecord (2147483647 ∷ []) (replicate 3 0), replicate 8589934590 0)
     ∷ (openRecord (4294967293 ∷ 0 ∷ []) cross, replicate 4294967294 0)
     ∷ (openRecord (2147483647 ∷ 2 ∷ []) cross, replicate 10737418236 0)

@@ -13,7 +13,7 @@ use Rattle.groups.proofs.NumberLaws.{number-right, numbered-same}
 use Rattle.groups.proofs.QuotientLaws.{Onto, by-runs}
 use Rattle.frame.specs.Shape.{size}
 use Rattle.frame.specs.ChainRule.{nonzero, Step}
-use Rattle.frame.specs.Runs.{runs, runOf}
+use Rattle.frame.specs.Runs.{runOf}
 use Rattle.frame.proofs.ShapeLaws.{fits-size}
 use Rattle.frame.proofs.RunLaws.{startOf, RunStep, runs-onto}
 use Rattle.label.specs.declared.Session.{Session}

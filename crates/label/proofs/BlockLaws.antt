@@ -1,11 +1,14 @@
 -- Feeds one after the other are one feed of all their lines.
 -- Assumes nothing.
 use mathlib.Core.Path.{_≡_, refl, sym, ap, ap₂, _∙_, subst}
-use mathlib.Core.Bool.{Bool}
-use mathlib.Core.List.{List, [], _++_, append-assoc}
-use Prim.Native.Nat.{ℕ, _+_, _-_, _*_, _≤_, _<_}
-use native.Mathlib.Nat.{le-refl, add-assoc, add-mul, zero-mul}
+use mathlib.Core.Logic.{_⊎_, inl, inr}
+use mathlib.Core.Bool.{Bool, true, false, cond}
+use mathlib.Core.List.{List, [], _++_, append-assoc, List·Memᴰ, _∷_, List·Memᴰ·cases-cons, List·Memᴰ·eq-of-singleton}
+use Prim.Native.Nat.{ℕ, _+_, _-_, _*_, _≤_, _<_, min, suc, max, _/_, zero}
+use native.Mathlib.Nat.{le-refl, add-assoc, add-mul, zero-mul, suc-mul, mul-comm, mul-le-mul-right, div-lt-iff-lt-mul}
 use native.Mathlib.Omega.{arith}
+use borrow.Author.Tests.{leb-true, leb-false}
+use lib.Dec.{leb}
 use lib.ListN.{length, length-append}
 use Rattle.groups.specs.Groups.{Edge, rep, joins, visit}
 use Rattle.groups.proofs.VisitLaws.{visit-append, rep-over, joins-over}
@@ -13,7 +16,7 @@ use Rattle.frame.specs.Shape.{width, leading}
 use Rattle.frame.specs.Runs.{runsBefore, frameRun}
 use Rattle.frame.specs.Touches.{frameTouches}
 use Rattle.frame.specs.Memory.{wordsNeeded}
-use Rattle.frame.specs.Plain.{Answer, fed}
+use Rattle.frame.specs.Plain.{Answer}
 use Rattle.frame.proofs.TouchLaws.{touches-split}
 use Rattle.frame.proofs.GrowLaws.{touches-stay}
 use Rattle.label.specs.declared.Session.{Session}
@@ -22,9 +25,9 @@ use Rattle.label.specs.Words.{shapeOf, structureOf, linesOf, endPlace, p
 use Rattle.label.specs.Sound.{Sound}
 use Rattle.label.specs.Held.{cellsOf, groupingOf}
 use Rattle.label.specs.Feeding.{runsAfter, feedTouches, feedEdges, feedRecord, FeedWords, FeedPromise}
-use Rattle.label.specs.WholeFrame.{Fills, no-more, block}
+use Rattle.label.specs.WholeFrame.{chop, blocks, Fills, no-more, block}
 use Rattle.label.proofs.ForestLaws.{grouping-rep-all, grouping-joins}
-use Rattle.label.proofs.AcceptedLaws.{Goes, goes-feed, goes-session}
+use Rattle.label.proofs.AcceptedLaws.{Accepted, accepted-cause, accepted-session}
 use Rattle.label.proofs.StoreLaws.{Stores}
 use Rattle.label.proofs.SoundCells.{sound-stores}
 use Rattle.label.proofs.FeedWordLaws.{Aside, Wrote, wrote-others}
@@ -217,9 +220,9 @@ pub record OneFeed (s : Session) (ws : List ℕ) (k : ℕ) (cells : List Bool) (
   pub session : s′ ≡ feedRecord s ws k cells
   pub words : FeedWords s ws k cells ws′
 
-one-feed : (s : Session) (ws : List ℕ) (k : ℕ) (cells : List Bool) (a : Answer) (s′ : Session) (ws′ : List ℕ) → Goes s ws k cells
+one-feed : (s : Session) (ws : List ℕ) (k : ℕ) (cells : List Bool) (a : Answer) (s′ : Session) (ws′ : List ℕ) → Accepted s ws k cells
     → FeedPromise s ws k cells a s′ ws′ → OneFeed s ws k cells s′ ws′
-one-feed s ws k cells a s′ ws′ G P = record { whole = G .whole; session = goes-session s ws k cells G a s′ ws′ P; words = P .accepted (goes-feed s ws k cells G) }
+one-feed s ws k cells a s′ ws′ G P = record { whole = G .whole; session = accepted-session s ws k cells G a s′ ws′ P; words = P .accepted (accepted-cause s ws k cells G) }
 
 -- a block, and those after it
 module _ (s : Session) (ws : List ℕ) (S : Sound s ws) (k : ℕ) (more : List Bool) (s₁ : Session) (ws₁ : List ℕ) (few : k ≤ linesOf s - s .fed) (O : OneFeed s ws k more s₁ ws₁) where
@@ -247,7 +250,7 @@ pub fills-feed : {w : ℕ} {s s′ : Session} {ws ws′ ks : List ℕ} {cells : 
     → s .fed + sum ks ≤ linesOf s → OneFeed s ws (sum ks) cells s′ ws′
 unfolding sum
 fills-feed (no-more {s = s} {ws = ws}) S e h =
-    let none : Goes s ws 0 [] = record { is-sound = S; few = omega arith; whole = sym (zero-mul (width (shapeOf s))) } in
+    let none : Accepted s ws 0 [] = record { is-sound = S; few = omega arith; whole = sym (zero-mul (width (shapeOf s))) } in
     record { whole = none .whole; session = sym (record-none s ws [] none); words = words-none s ws [] none }
 fills-feed (block {s = s} {s′ = s₁} {s″ = s₂} {ws = ws} {ws′ = ws₁} {ws″ = ws₂} {k = k} {ks = ks} {cells = more} {rest = rest} {a = a} whole P F) S e h =
     let few : k ≤ linesOf s - s .fed = omega arith in
@@ -255,3 +258,55 @@ fills-feed (block {s = s} {s′ = s₁} {s″ = s₂} {ws = ws} {ws′ = ws₁} 
     let d = between-shape s ws S k more s₁ ws₁ few O in
     one-more s ws S k more s₁ ws₁ few O (sum ks) rest s₂ ws₂ (omega arith)
     (fills-feed F (between-sound s ws S k more s₁ ws₁ few O) (e ∙ ap width (sym d)) (rw d (omega (arith, between-fed s ws S k more s₁ ws₁ few O))))
+
+-- ---- the blocks of a whole frame
+
+pub sum-chop : (m b L : ℕ) → sum (chop m b L) ≡ L
+unfolding sum chop
+sum-chop zero b L = omega arith
+sum-chop (suc m) b L = go (leb L b) refl (sum-chop m b (L - b))
+  where
+    go : (t : Bool) → leb L b ≡ t → sum (chop m b (L - b)) ≡ L - b → sum (cond t (L ∷ []) (b ∷ chop m b (L - b))) ≡ L
+    go true e i = unfold sum in omega arith
+    go false e i = let l = leb-false L b e in unfold sum in omega (arith, i)
+
+pub sum-blocks : (L B : ℕ) → sum (blocks L B) ≡ L
+unfolding blocks
+sum-blocks L B = sum-chop L ((L + min (max B 1) L - 1) / min (max B 1) L) L
+
+-- no block is above ⌈L/B⌉ lines
+chop-most : (m b L : ℕ) → L ≤ m * b → (k : ℕ) → List·Memᴰ k (chop m b L) → k ≤ b
+unfolding chop
+chop-most zero b L h k i = let e = List·Memᴰ·eq-of-singleton i in omega (arith, zero-mul b, e)
+chop-most (suc m) b L h k i = go (leb L b) refl i (chop-most m b (L - b) (omega (arith, suc-mul m b)) k)
+  where
+    first : (k ≡ b) ⊎ List·Memᴰ k (chop m b (L - b)) → (List·Memᴰ k (chop m b (L - b)) → k ≤ b) → k ≤ b
+    first (inl e) below = omega (arith, e)
+    first (inr j) below = below j
+
+    go : (t : Bool) → leb L b ≡ t → List·Memᴰ k (cond t (L ∷ []) (b ∷ chop m b (L - b))) → (List·Memᴰ k (chop m b (L - b)) → k ≤ b) → k ≤ b
+    go true e j below = let q = List·Memᴰ·eq-of-singleton j in omega (arith, q, leb-true L b e)
+    go false e j below = first (List·Memᴰ·cases-cons j) below
+
+pub blocks-most : (L B : ℕ) → 0 < L → (k : ℕ) → List·Memᴰ k (blocks L B) → k ≤ (L + min (max B 1) L - 1) / min (max B 1) L
+unfolding blocks
+blocks-most L B pos k = chop-most L b L enough k
+  where
+    c : ℕ
+    c = min (max B 1) L
+
+    b : ℕ
+    b = (L + c - 1) / c
+
+    some : 0 < c
+    some = omega arith
+
+    full : 1 ≤ b
+    full = go (leb 1 b) refl
+      where
+        go : (t : Bool) → leb 1 b ≡ t → 1 ≤ b
+        go true e = leb-true 1 b e
+        go false e = let l : L + c - 1 < 1 * c = div-lt-iff-lt-mul some .0 (leb-false 1 b e) in absurd (omega arith)
+
+    enough : L ≤ L * b
+    enough = omega (arith, mul-le-mul-right L full, mul-comm b L)

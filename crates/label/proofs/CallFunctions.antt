@@ -1,5 +1,4 @@
--- A plain function for each call. Where a promise is a list of equations, the function is their right-hand sides; the parents, which
--- alone are free, are here each group's smallest run.
+-- A plain function for each call: its promise's right-hand sides, with each group's smallest run as its runs' parent.
 -- Assumes nothing.
 use mathlib.Core.Bool.{Bool}
 use mathlib.Core.List.{List, map}

@@ -19,14 +19,14 @@ use Rattle.label.specs.Sound.{Sound}
 use Rattle.label.specs.Held.{groupingOf}
 use Rattle.label.specs.Feeding.{runsAfter, feedTouches, feedEdges, feedRecord, withLines, withRuns, feedCauseOf, FeedWords, FeedPromise}
 use Rattle.label.proofs.ForestLaws.{grouping-rep, grouping-joins}
-use Rattle.label.proofs.AcceptedLaws.{Goes, feed-goes, goes-fits, goes-session}
+use Rattle.label.proofs.AcceptedLaws.{Accepted, cause-accepted, accepted-fits, accepted-session}
 
-module _ (s : Session) (ws : List ℕ) (cells : List Bool) (G : Goes s ws 0 cells) where
+module _ (s : Session) (ws : List ℕ) (cells : List Bool) (G : Accepted s ws 0 cells) where
   S : Sound s ws
   S = G .is-sound
 
   no-runs : runs (shapeOf s) (structureOf s) cells ≡ 0
-  no-runs = runs-all (shapeOf s) (structureOf s) cells 0 (goes-fits s ws 0 cells G) ∙ start-zero (shapeOf s) (structureOf s) cells
+  no-runs = runs-all (shapeOf s) (structureOf s) cells 0 (accepted-fits s ws 0 cells G) ∙ start-zero (shapeOf s) (structureOf s) cells
 
   same-runs : runsAfter s cells ≡ s .runs
   unfolding runsAfter
@@ -50,7 +50,7 @@ module _ (s : Session) (ws : List ℕ) (cells : List Bool) (G : Goes s ws 0 cell
   }
 
   same-joins : joins (feedEdges s ws 0 cells) ≡ s .joins
-  same-joins = ap joins same-edges ∙ grouping-joins (parentOf (linesOf s) ws) (s .runs) (S .parents) ∙ sym (S .counted)
+  same-joins = ap joins same-edges ∙ grouping-joins (parentOf (linesOf s) ws) (s .runs) (S .parents) ∙ sym (S .join-count)
 
   pub record-none : feedRecord s ws 0 cells ≡ s
   unfolding feedRecord
@@ -64,5 +64,5 @@ pub feed-none : (s : Session) (ws : List ℕ) (cells : List Bool) (a : Answer) (
 feed-none s ws cells a s′ ws′ P = go (feedCauseOf s ws 0 cells) refl
   where
     go : (c : ℕ) → feedCauseOf s ws 0 cells ≡ c → (s′ ≡ s) × (ws′ ≡ ws)
-    go zero e = let G = feed-goes s ws 0 cells e in (goes-session s ws 0 cells G a s′ ws′ P ∙ record-none s ws cells G, P .accepted e .no-lines refl)
+    go zero e = let G = cause-accepted s ws 0 cells e in (accepted-session s ws 0 cells G a s′ ws′ P ∙ record-none s ws cells G, P .accepted e .no-lines refl)
     go (suc c) e = (P .session ∙ kept-old s (feedRecord s ws 0 cells) (feedCauseOf s ws 0 cells) c e, P .refusal (omega arith))

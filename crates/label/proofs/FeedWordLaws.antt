@@ -13,13 +13,13 @@ use Rattle.frame.specs.ChainRule.{any}
 use Rattle.frame.specs.Runs.{runs, Run}
 use Rattle.frame.proofs.ChainRuleLaws.{any-found, any-at}
 use Rattle.label.specs.declared.Session.{Session}
-use Rattle.label.specs.Words.{shapeOf, structureOf, linesOf, startPlace, endPlace, lineStart, storedRun, NoParent}
+use Rattle.label.specs.Words.{shapeOf, structureOf, linesOf, linePlace, startPlace, endPlace, lineStart, storedRun, NoParent}
 use Rattle.label.specs.Feeding.{runsAfter, startAfter, runAfter, withLines, withRuns, FeedWords}
 use Rattle.label.proofs.SetLaws.{length-setAll, setAll-other, setAll-at}
 
 -- the place is of no line start and no new run's start or end that a feed writes
 pub record Aside (s : Session) (k : ℕ) (cells : List Bool) (j : ℕ) : Type 0 where
-  pub no-line : (i : ℕ) → i < k → j ≢ s .fed + suc i
+  pub no-line : (i : ℕ) → i < k → j ≢ linePlace (s .fed + suc i)
   pub no-start : (r : ℕ) → s .runs ≤ r → r < runsAfter s cells → j ≢ startPlace (linesOf s) r
   pub no-end : (r : ℕ) → s .runs ≤ r → r < runsAfter s cells → j ≢ endPlace (linesOf s) r
 

@@ -1,35 +1,38 @@
 -- The promises ask for no word, size or figure that its type cannot hold: words and sizes are u32, and a record's figures are usize.
 -- Assumes nothing.
 use mathlib.Core.Path.{_≡_, refl, sym, _∙_, subst}
-use mathlib.Core.Bool.{Bool, true, false, _||_, true≢false}
+use mathlib.Core.Bool.{Bool, true, false, true≢false}
 use mathlib.Core.List.{List, [], _∷_}
-use Prim.Native.Nat.{ℕ, zero, suc, _+_, _-_, _≤_, _<_}
+use Prim.Native.Nat.{ℕ, zero, suc, _+_, _≤_, _<_}
 use native.Mathlib.Nat.{le-refl}
 use native.Mathlib.Omega.{arith}
 use borrow.Author.Tests.{eqb-true, eq-eqb, leb-false, leb-true}
 use lib.Dec.{eqb, leb}
-use lib.ListN.{getD, set}
+use lib.ListN.{getD, set, length}
 use Rattle.groups.specs.Numbers.{Numbered}
+use Rattle.groups.proofs.BoolLaws.{or₃-false}
 use Rattle.groups.proofs.CountLaws.{count-most}
 use Rattle.frame.specs.Shape.{size, width, lines}
 use Rattle.frame.specs.ChainRule.{nonzero, any}
 use Rattle.frame.specs.Runs.{beginsRun, runs}
-use Rattle.frame.specs.Kinds.{Number, largest, holds}
+use Rattle.frame.specs.Kinds.{Number, largest, holds, Value}
 use Rattle.frame.specs.Causes.{tooLarge}
+use Rattle.frame.specs.Plain.{Answer, kept}
 use Rattle.frame.proofs.ChainRuleLaws.{any-found, any-at}
 use Rattle.frame.proofs.LineLaws.{Within}
+use Rattle.frame.proofs.CauseLaws.{read-accepted, sizes-accepted}
 use Rattle.label.specs.declared.Session.{Session}
 use Rattle.label.specs.Lists.{setAll}
 use Rattle.label.specs.Words.{shapeOf, structureOf, linesOf, parentPlace, lineStart, parentOf, NoParent}
 use Rattle.label.specs.Forest.{rootOf, numberIn}
-use Rattle.label.specs.Sound.{Sound}
+use Rattle.label.specs.Sound.{Sound, sound}
 use Rattle.label.specs.Held.{cellsOf, HeldStep, rootCount, numberAt, sizeAt}
 use Rattle.label.specs.Opening.{openWords}
-use Rattle.label.specs.Feeding.{runsAfter, startAfter, runAfter, feedRecord, withLines, withRuns, feedCauseOf, FeedWords}
-use Rattle.label.specs.Reading.{withNames}
+use Rattle.label.specs.Feeding.{runsAfter, startAfter, runAfter, feedRecord, withLines, withRuns, feedCauseOf, FeedWords, FeedPromise}
+use Rattle.label.specs.Reading.{withNames, readCauseOf, ReadPromise, sizesCauseOf, SizesPromise}
 use Rattle.label.proofs.ForestLaws.{roots-others, root-le}
-use Rattle.label.proofs.SoundLaws.{starts-rise, n-joins}
-use Rattle.label.proofs.AcceptedLaws.{Goes, feed-goes}
+use Rattle.label.proofs.SoundLaws.{sound-right, starts-rise, n-joins}
+use Rattle.label.proofs.AcceptedLaws.{Accepted, cause-accepted}
 use Rattle.label.proofs.StoreLaws.{Stores}
 use Rattle.label.proofs.SoundCells.{sound-stores, runs-held}
 use Rattle.label.proofs.AnyOrigin.{any-numbered}
@@ -58,11 +61,6 @@ pub open-fits : (ws : List ℕ) → Words32 ws → Words32 (openWords ws)
 open-fits ws fits = set-fits ws 0 0 (omega arith) fits
 
 -- ---- of a sound record
-
-or₃-false : (a b c : Bool) → (a || (b || c)) ≡ false → (a ≡ false) × (b ≡ false) × (c ≡ false)
-or₃-false false false c h = (refl, refl, h)
-or₃-false false true c h = absurd (true≢false h)
-or₃-false true b c h = absurd (true≢false h)
 
 module _ (s : Session) (ws : List ℕ) (S : Sound s ws) where
   -- the shape, and document 01's limits of w, L and L × w
@@ -117,7 +115,7 @@ module _ (s : Session) (ws : List ℕ) (S : Sound s ws) where
 
 -- ---- a feed
 
-module _ (s : Session) (ws : List ℕ) (k : ℕ) (cells : List Bool) (goes : feedCauseOf s ws k cells ≡ 0) (fits : Words32 ws) (ws′ : List ℕ) (W : FeedWords s ws k cells ws′) where
+module _ (s : Session) (ws : List ℕ) (k : ℕ) (cells : List Bool) (no-cause : feedCauseOf s ws k cells ≡ 0) (fits : Words32 ws) (ws′ : List ℕ) (W : FeedWords s ws k cells ws′) where
   -- L, w, the runs afterwards, and the new ones
   abbrev L : ℕ
   L = linesOf s
@@ -125,14 +123,14 @@ module _ (s : Session) (ws : List ℕ) (k : ℕ) (cells : List Bool) (goes : fee
   abbrev w : ℕ
   w = width (shapeOf s)
 
-  abbrev n : ℕ
-  n = runsAfter s cells
+  abbrev after : ℕ
+  after = runsAfter s cells
 
   abbrev new : ℕ
   new = runs (shapeOf s) (structureOf s) cells
 
-  G : Goes s ws k cells
-  G = feed-goes s ws k cells goes
+  G : Accepted s ws k cells
+  G = cause-accepted s ws k cells no-cause
 
   H : Stores s ws (cellsOf s ws)
   H = sound-stores s ws (G .is-sound)
@@ -148,7 +146,7 @@ module _ (s : Session) (ws : List ℕ) (k : ℕ) (cells : List Bool) (goes : fee
   unfolding feedRecord
   start-fits ℓ h = rw (← placed .lined ℓ h) (line-fits (feedRecord s ws k cells) ws′ S′ ℓ h)
 
-  run-inside : (r : ℕ) → r < n → Within w (runAfter s ws cells r)
+  run-inside : (r : ℕ) → r < after → Within w (runAfter s ws cells r)
   unfolding feedRecord shapeOf
   run-inside r h = subst (Within w) (placed .ran r h) (record { full = S′ .nonempty r h; fits = S′ .inside r h })
 
@@ -160,15 +158,40 @@ module _ (s : Session) (ws : List ℕ) (k : ℕ) (cells : List Bool) (goes : fee
       (setAll-fits _ _ new _ (λ i h. let u = run-inside (s .runs + i) (omega arith) in omega (arith, u .full, u .fits, limits s ws (G .is-sound) .0))
       (setAll-fits _ _ k ws (λ i h. start-fits (s .fed + suc i) (omega arith)) fits))
 
-  parent-fits : (r : ℕ) → r < n → parentOf L ws′ r < 4294967296
+  parent-fits : (r : ℕ) → r < after → parentOf L ws′ r < 4294967296
   unfolding feedRecord
   parent-fits r h = omega (arith, W .parents r h, runs-fit (feedRecord s ws k cells) ws′ S′)
 
   pub feed-fits : Words32 ws′
-  feed-fits j = go (any (λ r. eqb j (parentPlace L r)) n) refl
+  feed-fits j = go (any (λ r. eqb j (parentPlace L r)) after) refl
     where
-      go : (b : Bool) → any (λ r. eqb j (parentPlace L r)) n ≡ b → getD ws′ j 0 < 4294967296
-      go true e = let f = any-found (λ r. eqb j (parentPlace L r)) n e in rw (eqb-true j (parentPlace L (f .0)) (f .2)) (parent-fits (f .0) (f .1))
+      go : (b : Bool) → any (λ r. eqb j (parentPlace L r)) after ≡ b → getD ws′ j 0 < 4294967296
+      go true e = let f = any-found (λ r. eqb j (parentPlace L r)) after e in rw (eqb-true j (parentPlace L (f .0)) (f .2)) (parent-fits (f .0) (f .1))
       go false e =
-          let no-parent : NoParent L n j = λ r l q. true≢false (sym (any-at (λ r. eqb j (parentPlace L r)) n r l (eq-eqb j (parentPlace L r) q)) ∙ e) in
+          let no-parent : NoParent L after j = λ r l q. true≢false (sym (any-at (λ r. eqb j (parentPlace L r)) after r l (eq-eqb j (parentPlace L r) q)) ∙ e) in
           rw (W .others j no-parent) (with-runs j)
+
+-- ---- the promises, on every record: words stay u32s
+
+pub feed-words-fit : (s : Session) (ws : List ℕ) (k : ℕ) (cells : List Bool) (a : Answer) (s′ : Session) (ws′ : List ℕ) → FeedPromise s ws k cells a s′ ws′ → Words32 ws → Words32 ws′
+feed-words-fit s ws k cells a s′ ws′ P fits = go (feedCauseOf s ws k cells) refl
+  where
+    go : (c : ℕ) → feedCauseOf s ws k cells ≡ c → Words32 ws′
+    go zero e = feed-fits s ws k cells e fits ws′ (P .accepted e)
+    go (suc c) e = subst Words32 (sym (P .refusal (omega arith))) fits
+
+-- names are written where there is no cause, and then the record is sound
+named-fit : (s : Session) (ws : List ℕ) (c : ℕ) → (c ≡ 0 → Sound s ws) → Words32 ws → Words32 (kept c ws (withNames s ws))
+unfolding kept
+named-fit s ws zero is-sound fits = names-fit s ws (is-sound refl) fits
+named-fit s ws (suc c) is-sound fits = fits
+
+pub read-words-fit : (kind : Number) (s : Session) (ws : List ℕ) (out : List (Value kind)) (a : Answer) (s′ : Session) (ws′ : List ℕ) (out′ : List (Value kind)) → ReadPromise kind s ws out a s′ ws′ out′ → Words32 ws → Words32 ws′
+read-words-fit kind s ws out a s′ ws′ out′ P fits =
+    subst Words32 (sym (P .words))
+    (named-fit s ws (readCauseOf kind s ws (length out)) (λ e. sound-right s ws (read-accepted (sound s ws) (length out) (size (shapeOf s)) (holds kind (rootCount s ws)) (unfold readCauseOf in e) .0)) fits)
+
+pub sizes-words-fit : (s : Session) (ws out : List ℕ) (a : Answer) (s′ : Session) (ws′ out′ : List ℕ) → SizesPromise s ws out a s′ ws′ out′ → Words32 ws → Words32 ws′
+sizes-words-fit s ws out a s′ ws′ out′ P fits =
+    subst Words32 (sym (P .words))
+    (named-fit s ws (sizesCauseOf s ws (length out)) (λ e. sound-right s ws (sizes-accepted (sound s ws) (length out) (rootCount s ws) (unfold sizesCauseOf in e) .0)) fits)

@@ -1,13 +1,11 @@
 -- Whole frames: an opening, feeds of any blocks that add up to L, and a reading are what a whole frame promises.
 -- Assumes nothing.
 use mathlib.Core.Path.{_≡_, refl, sym, ap, ap₂, _∙_, subst}
-use mathlib.Core.Bool.{Bool, true, false, cond}
-use mathlib.Core.List.{List, [], _∷_, map}
-use Prim.Native.Nat.{ℕ, zero, suc, _+_, _-_, _*_, _/_, min, max, _≤_, _<_}
+use mathlib.Core.Bool.{Bool}
+use mathlib.Core.List.{List, map}
+use Prim.Native.Nat.{ℕ, suc, _-_, _*_, _≤_, _<_}
 use native.Mathlib.Nat.{zero-add}
 use native.Mathlib.Omega.{arith}
-use borrow.Author.Tests.{leb-false}
-use lib.Dec.{leb}
 use lib.ListN.{length}
 use Rattle.frame.specs.Shape.{size, width, lines}
 use Rattle.frame.specs.ChainRule.{labels}
@@ -25,29 +23,14 @@ use Rattle.label.specs.Held.{figuresOf, cellsOf}
 use Rattle.label.specs.Opening.{openRecord, openWords}
 use Rattle.label.specs.Feeding.{runsAfter, feedRecord, feedCauseOf, FeedWords, FeedPromise}
 use Rattle.label.specs.Reading.{withNames, countedOf, readCauseOf, ReadPromise}
-use Rattle.label.specs.WholeFrame.{chop, blocks, Fills, allFed, earlyCauseOf, frameCauseOf, FrameWords, FramePromise}
-use Rattle.label.proofs.AcceptedLaws.{Goes, goes-feed, goes-promise}
+use Rattle.label.specs.WholeFrame.{Fills, allFed, earlyCauseOf, frameCauseOf, FrameWords, FramePromise}
+use Rattle.label.proofs.AcceptedLaws.{Accepted, accepted-cause, accepted-promise}
 use Rattle.label.proofs.SoundCells.{sound-stores}
 use Rattle.label.proofs.FeedLaws.{feed-shape, room}
 use Rattle.label.proofs.Invariant.{stateOf, Inv, inv-n, inv-figures, inv-numbers}
 use Rattle.label.proofs.KeepLaws.{fed-inv, fed-state, read-cause}
 use Rattle.label.proofs.OpenLaws.{opened-shape, opened-structure, opened-inv, opened-state}
 use Rattle.label.proofs.BlockLaws.{fills-feed}
-
--- ---- blocks add up
-
-pub sum-chop : (m b L : ℕ) → sum (chop m b L) ≡ L
-unfolding sum chop
-sum-chop zero b L = omega arith
-sum-chop (suc m) b L = go (leb L b) refl (sum-chop m b (L - b))
-  where
-    go : (t : Bool) → leb L b ≡ t → sum (chop m b (L - b)) ≡ L - b → sum (cond t (L ∷ []) (b ∷ chop m b (L - b))) ≡ L
-    go true e i = unfold sum in omega arith
-    go false e i = let l = leb-false L b e in unfold sum in omega (arith, i)
-
-pub sum-blocks : (L B : ℕ) → sum (blocks L B) ≡ L
-unfolding blocks
-sum-blocks L B = sum-chop L ((L + min (max B 1) L - 1) / min (max B 1) L) L
 
 -- ---- whole frames
 
@@ -79,14 +62,14 @@ module _ (kind : Number) (shape structure ws : List ℕ) (cells : List Bool) (ou
 
   -- ---- fed
 
-  module _ (goes : early ≡ 0) where
+  module _ (no-cause : early ≡ 0) where
     pub frame-facts : (openCause shape structure (length ws) ≡ 0) × (length cells ≡ size shape) × (length out ≡ size shape)
-    frame-facts = frame-accepted shape structure (length ws) (length cells) (length out) (unfold earlyCauseOf in goes)
+    frame-facts = frame-accepted shape structure (length ws) (length cells) (length out) (unfold earlyCauseOf in no-cause)
 
     -- what is left is a reading's cause
     pub cause-read : late ≡ cause shape (allFed shape structure cells) (read kind out)
     unfolding cause frameCauseOf
-    cause-read = frame-reads shape structure (length ws) (length cells) (length out) (holds kind (groupsOf shape (allFed shape structure cells))) (unfold earlyCauseOf in goes)
+    cause-read = frame-reads shape structure (length ws) (length cells) (length out) (holds kind (groupsOf shape (allFed shape structure cells))) (unfold earlyCauseOf in no-cause)
 
     A : Allowed shape structure (length ws)
     A = open-accepted shape structure (length ws) (frame-facts .0)
@@ -107,11 +90,11 @@ module _ (kind : Number) (shape structure ws : List ℕ) (cells : List Bool) (ou
     whole : length cells ≡ lines shape * width (shapeOf s)
     whole = frame-facts .1 ∙ size-lines shape ∙ ap (λ (d : List ℕ). lines shape * width d) (sym (opened-shape shape structure ws A))
 
-    G : Goes s vs (lines shape) cells
+    G : Accepted s vs (lines shape) cells
     G = record { is-sound = I .is-sound; few = few; whole = whole }
 
     pub frame-feeds : feedCauseOf s vs (lines shape) cells ≡ 0
-    frame-feeds = goes-feed s vs (lines shape) cells G
+    frame-feeds = accepted-cause s vs (lines shape) cells G
 
     -- its runs are those of the cells, and the memory has room for them
     pub frame-runs : runsAfter s cells ≡ runs shape structure cells
@@ -160,7 +143,7 @@ module _ (kind : Number) (shape structure ws : List ℕ) (cells : List Bool) (ou
           answer = fed (lines shape) (figuresOf s₁);
           session = s₁;
           fed-words = ws₁;
-          fed-all = subst (λ (n : ℕ). FeedPromise s vs (lines shape) cells (fed n (figuresOf s₁)) s₁ ws₁) (zero-add (lines shape)) (goes-promise s vs (lines shape) cells G ws₁ W);
+          fed-all = subst (λ (n : ℕ). FeedPromise s vs (lines shape) cells (fed n (figuresOf s₁)) s₁ ws₁) (zero-add (lines shape)) (accepted-promise s vs (lines shape) cells G ws₁ W);
           names = R .words ∙ ap (λ (c : ℕ). kept c ws₁ (withNames s₁ ws₁)) cause-late;
         };
       }

@@ -1,5 +1,4 @@
--- What holds of a record and its words after every list of calls from an accepted opening, and what follows from it: they answer
--- as the plain session does.
+-- What holds of a record and its words after every list of calls from an accepted opening, and what follows from it.
 -- Assumes nothing.
 use mathlib.Core.Path.{_≡_, refl, sym, ap, ap₂, _∙_}
 use mathlib.Core.Bool.{Bool, true, false, cond}

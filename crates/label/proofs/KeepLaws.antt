@@ -3,7 +3,7 @@
 use mathlib.Core.Path.{_≡_, refl, sym, ap, ap₂, _∙_, subst}
 use mathlib.Core.Bool.{Bool, true}
 use mathlib.Core.List.{List, [], _++_}
-use Prim.Native.Nat.{ℕ, zero, suc, _+_, _-_, _<_}
+use Prim.Native.Nat.{ℕ, zero, suc, _+_, _<_}
 use native.Mathlib.Omega.{arith}
 use lib.ListN.{length}
 use Rattle.groups.specs.Groups.{Edge, rep, visit}
@@ -24,7 +24,7 @@ use Rattle.label.specs.Feeding.{feedEdges, feedRecord, feedCauseOf, Feed
 use Rattle.label.specs.Reading.{withNames, countedOf, readCauseOf, ReadPromise, sizesCauseOf, SizesPromise}
 use Rattle.label.proofs.ForestLaws.{grouping-rep-all}
 use Rattle.label.proofs.SoundLaws.{right-sound}
-use Rattle.label.proofs.AcceptedLaws.{Goes, feed-goes, goes-session}
+use Rattle.label.proofs.AcceptedLaws.{Accepted, cause-accepted, accepted-session}
 use Rattle.label.proofs.StoreLaws.{Stores, stores-cells}
 use Rattle.label.proofs.SoundCells.{sound-stores}
 use Rattle.label.proofs.FeedLaws.{feed-shape, touches-after, stores-after, sound-after}
@@ -33,12 +33,12 @@ use Rattle.label.proofs.Invariant.{stateOf, visited, Inv, inv-runs, inv
 
 -- ---- a feed that is accepted
 
-module _ (s : Session) (ws : List ℕ) (I : Inv s ws) (k : ℕ) (more : List Bool) (goes : feedCauseOf s ws k more ≡ 0) (ws′ : List ℕ) (W : FeedWords s ws k more ws′) where
+module _ (s : Session) (ws : List ℕ) (I : Inv s ws) (k : ℕ) (more : List Bool) (no-cause : feedCauseOf s ws k more ≡ 0) (ws′ : List ℕ) (W : FeedWords s ws k more ws′) where
   H : Stores s ws (cellsOf s ws)
   H = sound-stores s ws (I .is-sound)
 
-  G : Goes s ws k more
-  G = feed-goes s ws k more goes
+  G : Accepted s ws k more
+  G = cause-accepted s ws k more no-cause
 
   -- the words hold the lines fed before and the new ones
   pub fed-cells : cellsOf (feedRecord s ws k more) ws′ ≡ cellsOf s ws ++ more
@@ -115,7 +115,7 @@ module _ (s : Session) (ws : List ℕ) (I : Inv s ws) where
 
       go : (c : ℕ) → feedCauseOf s ws k (flags cells) ≡ c → Follows s ws (feed k cells) (record { said = a; written = nothing }) s′ ws′
       go zero e =
-          let to = goes-session s ws k (flags cells) (feed-goes s ws k (flags cells) e) a s′ ws′ P in
+          let to = accepted-session s ws k (flags cells) (cause-accepted s ws k (flags cells) e) a s′ ws′ P in
           subst (λ (x : Session). Follows s ws (feed k cells) (record { said = a; written = nothing }) x ws′) (sym to)
           (record {
             same = says;

@@ -1,4 +1,4 @@
--- The last number that passes, and lists made of numbers in turn.
+-- Tests of all numbers below n and of lists, the last number that passes, and lists made of numbers in turn.
 -- Assumes nothing.
 use mathlib.Core.Path.{_≡_, refl, sym, ap, _∙_, ap₂}
 use mathlib.Core.Bool.{Bool, true, false, cond, true≢false}
@@ -9,9 +9,10 @@ use native.Mathlib.Omega.{arith}
 use borrow.Author.Tests.{eqb-true, eqb-false}
 use lib.Dec.{eqb}
 use lib.ListN.{length, getD, length-map}
+use Rattle.groups.proofs.BoolLaws.{and-true, and-left, and-right}
 use Rattle.frame.specs.ChainRule.{range}
 use Rattle.frame.proofs.ChainRuleLaws.{length-range}
-use Rattle.label.specs.Lists.{lastBelow}
+use Rattle.label.specs.Lists.{all, every, lastBelow}
 
 -- where one alone passes, it is found
 pub last-only : (f : ℕ → Bool) (n k : ℕ) → k < n → f k ≡ true → ((i : ℕ) → i < n → f i ≡ true → i ≡ k) → lastBelow f n ≡ k
@@ -30,7 +31,7 @@ last-only f (suc n) k h e only = go (f n) refl (last-only f n k)
 -- ---- the list f 0, f 1, .., of n of them
 
 module _ {A : Type 0} (f : ℕ → A) where
-  listed-from : (a n k : ℕ) (d : A) → k < n → getD (map f (range a n)) k d ≡ f (a + k)
+  pub listed-from : (a n k : ℕ) (d : A) → k < n → getD (map f (range a n)) k d ≡ f (a + k)
   unfolding range
   listed-from a zero k d h = absurd (not-suc-le-zero h)
   listed-from a (suc n) zero d h = let e : a ≡ a + 0 = omega arith in ap f e
@@ -52,3 +53,33 @@ same-map {A} f g a (suc n) h = ap₂ (λ (x : A) (xs : List A). x ∷ xs) (h a (
 pub map-twice : {A : Type 0} (f : ℕ → A) (g : ℕ → ℕ) (l : List ℕ) → map f (map g l) ≡ map (λ p. f (g p)) l
 map-twice f g [] = refl
 map-twice {A} f g (p ∷ l) = ap (λ (xs : List A). f (g p) ∷ xs) (map-twice f g l)
+
+-- ---- tests of all below n, and of a list
+
+pub all-at : (f : ℕ → Bool) (n r : ℕ) → all f n ≡ true → r < n → f r ≡ true
+unfolding all
+all-at f zero r h l = absurd (not-suc-le-zero l)
+all-at f (suc n) r h l = go (eqb r n) refl (all-at f n r (and-right (f n) (all f n) h))
+  where
+    go : (b : Bool) → eqb r n ≡ b → (r < n → f r ≡ true) → f r ≡ true
+    go true e below = rw (eqb-true r n e) (and-left (f n) (all f n) h)
+    go false e below = let ne = eqb-false r n e in below (omega arith)
+
+pub at-all : (f : ℕ → Bool) (n : ℕ) → ((r : ℕ) → r < n → f r ≡ true) → all f n ≡ true
+unfolding all
+at-all f zero h = refl
+at-all f (suc n) h = and-true (f n) (all f n) (h n (le-refl (suc n))) (at-all f n (λ r l. h r (omega arith)))
+
+pub every-at : (bs : List Bool) (i : ℕ) → every bs ≡ true → getD bs i true ≡ true
+unfolding every
+every-at [] i h = refl
+every-at (b ∷ bs) zero h = and-left b (every bs) h
+every-at (b ∷ bs) (suc i) h = every-at bs i (and-right b (every bs) h)
+
+pub every-more : (b : Bool) (bs : List Bool) → b ≡ true → every bs ≡ true → every (b ∷ bs) ≡ true
+unfolding every
+every-more b bs h k = and-true b (every bs) h k
+
+pub every-none : every [] ≡ true
+unfolding every
+every-none = refl

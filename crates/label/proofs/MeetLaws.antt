@@ -1,4 +1,4 @@
--- The plain calls meet the promises, whatever they are given: no promise asks what cannot be done.
+-- The plain functions meet the promises, whatever they are given.
 -- Assumes nothing.
 use mathlib.Core.Path.{_≡_, refl, sym, _∙_, subst}
 use mathlib.Core.Bool.{Bool}
@@ -23,7 +23,7 @@ use Rattle.label.specs.Reading.{withNames, ReadPromise, SizesPromise}
 use Rattle.label.specs.WholeFrame.{Fills, no-more, block, earlyCauseOf, frameCauseOf, FramePromise}
 use Rattle.label.proofs.SetLaws.{length-setAll, setAll-other, setAll-at}
 use Rattle.label.proofs.ForestLaws.{canonical-root}
-use Rattle.label.proofs.AcceptedLaws.{Goes, feed-goes}
+use Rattle.label.proofs.AcceptedLaws.{Accepted, cause-accepted}
 use Rattle.label.proofs.SoundCells.{sound-stores}
 use Rattle.label.proofs.FeedWordLaws.{length-withRuns}
 use Rattle.label.proofs.FeedLaws.{room}
@@ -48,42 +48,42 @@ sizes-met s ws out = record { said = refl; session = refl; words = refl; output 
 
 -- ---- feeding
 
-module _ (s : Session) (ws : List ℕ) (k : ℕ) (cells : List Bool) (goes : feedCauseOf s ws k cells ≡ 0) where
+module _ (s : Session) (ws : List ℕ) (k : ℕ) (cells : List Bool) (no-cause : feedCauseOf s ws k cells ≡ 0) where
   -- L, the runs afterwards and their grouping
   abbrev L : ℕ
   L = linesOf s
 
-  abbrev n : ℕ
-  n = runsAfter s cells
+  abbrev after : ℕ
+  after = runsAfter s cells
 
   abbrev es : List Edge
   es = feedEdges s ws k cells
 
-  G : Goes s ws k cells
-  G = feed-goes s ws k cells goes
+  G : Accepted s ws k cells
+  G = cause-accepted s ws k cells no-cause
 
-  parent-fits : (r : ℕ) → r < n → parentPlace L r < length ws
+  parent-fits : (r : ℕ) → r < after → parentPlace L r < length ws
   parent-fits r l = omega (arith, room s ws (cellsOf s ws) (sound-stores s ws (G .is-sound)) k cells (G .few) (G .whole) (G .is-sound .memory) r l)
 
   -- each parent is its group's smallest run
-  parent-is : (r : ℕ) → r < n → parentOf L (withParents s ws k cells) r ≡ rep es r
+  parent-is : (r : ℕ) → r < after → parentOf L (withParents s ws k cells) r ≡ rep es r
   unfolding withParents
-  parent-is r l = setAll-at (parentPlace L) (rep es) n (withRuns s ws k cells) (λ i j a b e. omega arith) r l (rw (length-withRuns s ws k cells) (parent-fits r l))
+  parent-is r l = setAll-at (parentPlace L) (rep es) after (withRuns s ws k cells) (λ i j a b e. omega arith) r l (rw (length-withRuns s ws k cells) (parent-fits r l))
 
   with-parents : 0 < k → FeedWords s ws k cells (withParents s ws k cells)
   unfolding withParents
   with-parents some = record {
-    long = length-setAll _ _ n (withRuns s ws k cells) ∙ length-withRuns s ws k cells;
-    others = setAll-other (parentPlace L) (rep es) n (withRuns s ws k cells);
+    long = length-setAll _ _ after (withRuns s ws k cells) ∙ length-withRuns s ws k cells;
+    others = setAll-other (parentPlace L) (rep es) after (withRuns s ws k cells);
     parents = λ r l. rw (parent-is r l) (rep-le es r);
-    grouped = canonical-root (parentOf L (withParents s ws k cells)) es n parent-is;
+    grouped = canonical-root (parentOf L (withParents s ws k cells)) es after parent-is;
     no-lines = λ e. absurd (omega arith);
   }
 
 words-met : (s : Session) (ws : List ℕ) (k : ℕ) (cells : List Bool) → feedCauseOf s ws k cells ≡ 0 → FeedWords s ws k cells (feedWords s ws k cells)
 unfolding feedWords
-words-met s ws zero cells goes = words-none s ws cells (feed-goes s ws 0 cells goes)
-words-met s ws (suc k) cells goes = with-parents s ws (suc k) cells goes (omega arith)
+words-met s ws zero cells no-cause = words-none s ws cells (cause-accepted s ws 0 cells no-cause)
+words-met s ws (suc k) cells no-cause = with-parents s ws (suc k) cells no-cause (omega arith)
 
 pub feed-met : (s : Session) (ws : List ℕ) (k : ℕ) (cells : List Bool)
     → FeedPromise s ws k cells (doFeed s ws k cells .said) (doFeed s ws k cells .session) (doFeed s ws k cells .words)

@@ -54,4 +54,4 @@ module _ (s : Session) (ws : List ℕ) where
     sound-named S =
         stores-sound s (withNames s ws) cells stores-named (S .ranked) (S .dimensions) (S .limits) (rw length-names (S .memory))
         (subst (λ (p : ℕ → ℕ). (r : ℕ) → r < s .runs → p r ≤ r) (sym parents-stand) (S .parents))
-        (S .counted ∙ ap (λ (p : ℕ → ℕ). nonRoots p (s .runs)) (sym parents-stand))
+        (S .join-count ∙ ap (λ (p : ℕ → ℕ). nonRoots p (s .runs)) (sym parents-stand))

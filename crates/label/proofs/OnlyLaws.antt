@@ -106,15 +106,15 @@ module _ (kind : Number) (shape structure ws : List ℕ) (cells : List Bool) (ou
   abbrev s₁ : Session
   s₁ = feedRecord (openRecord shape structure) (openWords ws) (lines shape) cells
 
-  module _ (goes : early ≡ 0) where
-    fed-goes : feedCauseOf s (openWords ws) (lines shape) cells ≡ 0
-    fed-goes = frame-feeds kind shape structure ws cells out goes
+  module _ (no-cause : early ≡ 0) where
+    fed-accepted : feedCauseOf s (openWords ws) (lines shape) cells ≡ 0
+    fed-accepted = frame-feeds kind shape structure ws cells out no-cause
 
     words : (vs : List ℕ) → (F : FrameWords kind shape structure ws cells out vs) → FeedWords s (openWords ws) (lines shape) cells (F .fed-words)
-    words vs F = F .fed-all .accepted fed-goes
+    words vs F = F .fed-all .accepted fed-accepted
 
     session : (vs : List ℕ) → (F : FrameWords kind shape structure ws cells out vs) → F .session ≡ s₁
-    session vs F = F .fed-all .session ∙ kept-new s s₁ (feedCauseOf s (openWords ws) (lines shape) cells) fed-goes
+    session vs F = F .fed-all .session ∙ kept-new s s₁ (feedCauseOf s (openWords ws) (lines shape) cells) fed-accepted
 
     named : (vs : List ℕ) → (F : FrameWords kind shape structure ws cells out vs) → vs ≡ kept late (F .fed-words) (withNames s₁ (F .fed-words))
     named vs F = F .names ∙ ap (λ (x : Session). kept late (F .fed-words) (withNames x (F .fed-words))) (session vs F)
@@ -131,7 +131,7 @@ module _ (kind : Number) (shape structure ws : List ℕ) (cells : List Bool) (ou
           low vs K = unfold feedRecord shapeOf in words vs K .parents
 
           room : (r : ℕ) → r < s₁ .runs → namePlace (linesOf s₁) r < length (F .fed-words)
-          room = unfold feedRecord shapeOf in λ r h. rw (words ws′ F .long) (frame-room kind shape structure ws cells out goes r h)
+          room = unfold feedRecord shapeOf in λ r h. rw (words ws′ F .long) (frame-room kind shape structure ws cells out no-cause r h)
 
       kept-alike : (c : ℕ) → late ≡ c → Alike (linesOf s₁) (s₁ .runs) ws′ vs′
       kept-alike zero e =
@@ -146,8 +146,8 @@ module _ (kind : Number) (shape structure ws : List ℕ) (cells : List Bool) (ou
       whole-alike : Alike (lines shape) (runs shape structure cells) ws′ vs′
       whole-alike =
           let stored : s₁ .runs ≡ runsAfter s cells = (unfold feedRecord in refl) in
-          subst (λ (L : ℕ). Alike L (runs shape structure cells) ws′ vs′) (ap lines (feed-shape s (openWords ws) (lines shape) cells) ∙ frame-lines kind shape structure ws cells out goes)
-          (subst (λ (n : ℕ). Alike (linesOf s₁) n ws′ vs′) (stored ∙ frame-runs kind shape structure ws cells out goes) (kept-alike late refl))
+          subst (λ (L : ℕ). Alike L (runs shape structure cells) ws′ vs′) (ap lines (feed-shape s (openWords ws) (lines shape) cells) ∙ frame-lines kind shape structure ws cells out no-cause)
+          (subst (λ (n : ℕ). Alike (linesOf s₁) n ws′ vs′) (stored ∙ frame-runs kind shape structure ws cells out no-cause) (kept-alike late refl))
 
   -- answer, output and words, parents aside
   pub frame-only : (a ≡ b) × (out′ ≡ out″) × Alike (lines shape) (runs shape structure cells) ws′ vs′

@@ -75,8 +75,8 @@ pub record Starts (shape structure : List ℕ) (s : Session) (ws : List ℕ) : T
 pub open-starts : (shape structure ws : List ℕ) (number : ℕ) (s : Session) (ws′ : List ℕ) → OpenPromise shape structure ws number s ws′ → number ≡ 0
     → Starts shape structure s ws′
 open-starts shape structure ws number s ws′ O z =
-    let goes : openCause shape structure (length ws) ≡ 0 = sym (O .said) ∙ z in
-    let A = open-accepted shape structure (length ws) goes in
-    subst (λ (x : Session). Starts shape structure x ws′) (sym (O .session ∙ kept-new blank (openRecord shape structure) (openCause shape structure (length ws)) goes))
-    (subst (λ (vs : List ℕ). Starts shape structure (openRecord shape structure) vs) (sym (O .words ∙ kept-new ws (openWords ws) (openCause shape structure (length ws)) goes))
+    let no-cause : openCause shape structure (length ws) ≡ 0 = sym (O .said) ∙ z in
+    let A = open-accepted shape structure (length ws) no-cause in
+    subst (λ (x : Session). Starts shape structure x ws′) (sym (O .session ∙ kept-new blank (openRecord shape structure) (openCause shape structure (length ws)) no-cause))
+    (subst (λ (vs : List ℕ). Starts shape structure (openRecord shape structure) vs) (sym (O .words ∙ kept-new ws (openWords ws) (openCause shape structure (length ws)) no-cause))
     (record { keeps = opened-inv shape structure ws A; shaped = opened-shape shape structure ws A; state = opened-state shape structure ws A }))

@@ -3,54 +3,24 @@
 use mathlib.Core.Path.{_≡_, refl, sym, ap, _∙_}
 use mathlib.Core.Logic.{_⊎_, inl, inr}
 use mathlib.Core.Bool.{Bool, true, false, not, _||_, true≢false}
-use mathlib.Core.List.{List, [], _∷_}
-use Prim.Native.Nat.{ℕ, zero, suc, _+_, _-_, _≤_, _<_}
+use mathlib.Core.List.{List}
+use Prim.Native.Nat.{ℕ, suc, _+_, _-_, _≤_, _<_}
 use native.Mathlib.Decide.{le-ind}
-use native.Mathlib.Nat.{le-refl, le-trans, not-suc-le-zero}
+use native.Mathlib.Nat.{le-refl, le-trans}
 use native.Mathlib.Omega.{arith}
-use borrow.Author.Tests.{eqb-true, eqb-false, eq-eqb, leb-true, leb-false, le-leb, ltb-true, ltb-false, lt-ltb, not-true}
-use lib.Dec.{eqb, ltb, leb}
-use lib.ListN.{getD}
+use borrow.Author.Tests.{eqb-true, eq-eqb, leb-true, leb-false, le-leb, ltb-true, ltb-false, lt-ltb, not-true}
+use lib.Dec.{ltb, leb}
 use Rattle.groups.specs.Groups.{groups}
-use Rattle.groups.proofs.BoolLaws.{and-true, and-left, and-right, or-left, or-right, or-cases}
+use Rattle.groups.proofs.BoolLaws.{or-left, or-right, or-cases}
 use Rattle.frame.specs.Structure.{leftOn}
 use Rattle.frame.specs.Runs.{gapOf}
 use Rattle.label.specs.declared.Session.{Session}
-use Rattle.label.specs.Lists.{all, every}
+use Rattle.label.specs.Lists.{all}
 use Rattle.label.specs.Words.{shapeOf, structureOf, linesOf, lineStart, runStart, runEnd, parentOf}
 use Rattle.label.specs.Sound.{Sound, sound}
 use Rattle.label.specs.Held.{groupingOf, rootCount}
+use Rattle.label.proofs.ListLaws.{all-at, at-all, every-at, every-more, every-none}
 use Rattle.label.proofs.ForestLaws.{roots-others, roots-count, roots-grouping}
-
--- ---- tests of all below n, and of a list
-
-pub all-at : (f : ℕ → Bool) (n r : ℕ) → all f n ≡ true → r < n → f r ≡ true
-unfolding all
-all-at f zero r h l = absurd (not-suc-le-zero l)
-all-at f (suc n) r h l = go (eqb r n) refl (all-at f n r (and-right (f n) (all f n) h))
-  where
-    go : (b : Bool) → eqb r n ≡ b → (r < n → f r ≡ true) → f r ≡ true
-    go true e below = rw (eqb-true r n e) (and-left (f n) (all f n) h)
-    go false e below = let ne = eqb-false r n e in below (omega arith)
-
-pub at-all : (f : ℕ → Bool) (n : ℕ) → ((r : ℕ) → r < n → f r ≡ true) → all f n ≡ true
-unfolding all
-at-all f zero h = refl
-at-all f (suc n) h = and-true (f n) (all f n) (h n (le-refl (suc n))) (at-all f n (λ r l. h r (omega arith)))
-
-pub every-at : (bs : List Bool) (i : ℕ) → every bs ≡ true → getD bs i true ≡ true
-unfolding every
-every-at [] i h = refl
-every-at (b ∷ bs) zero h = and-left b (every bs) h
-every-at (b ∷ bs) (suc i) h = every-at bs i (and-right b (every bs) h)
-
-pub every-more : (b : Bool) (bs : List Bool) → b ≡ true → every bs ≡ true → every (b ∷ bs) ≡ true
-unfolding every
-every-more b bs h k = and-true b (every bs) h k
-
-every-none : every [] ≡ true
-unfolding every
-every-none = refl
 
 -- ---- the test decides
 
@@ -72,8 +42,8 @@ module _ (s : Session) (ws : List ℕ) where
   apart r = leb (end r + gapOf left) (start (suc r))
 
   -- what `single` tests: no run is longer than one cell
-  abbrev singles : Bool
-  singles = all (λ r. leb (end r) (suc (start r))) (s .runs)
+  abbrev all-single : Bool
+  all-single = all (λ r. leb (end r) (suc (start r))) (s .runs)
 
   pub sound-right : sound s ws ≡ true → Sound s ws
   unfolding sound
@@ -90,9 +60,9 @@ module _ (s : Session) (ws : List ℕ) where
     nonempty = λ r l. ltb-true _ _ (all-at _ (s .runs) r (every-at _ 9 h) l);
     inside = λ r l. leb-true _ _ (all-at _ (s .runs) r (every-at _ 10 h) l);
     ordered = λ ℓ l r m a b. near ℓ r a b (or-cases (beside ℓ r) (apart r) (all-at _ (s .runs) r (all-at _ (s .fed) ℓ (every-at _ 11 h) l) m));
-    single = λ e r l. leb-true _ _ (all-at _ (s .runs) r (lone e (or-cases left singles (every-at _ 12 h))) l);
+    single = λ e r l. leb-true _ _ (all-at _ (s .runs) r (lone e (or-cases left all-single (every-at _ 12 h))) l);
     parents = λ r l. leb-true _ _ (all-at _ (s .runs) r (every-at _ 13 h) l);
-    counted = eqb-true _ _ (every-at _ 14 h);
+    join-count = eqb-true _ _ (every-at _ 14 h);
   }
     where
       near : (ℓ r : ℕ) → lineStart ws ℓ ≤ r → suc r < lineStart ws (suc ℓ) → (beside ℓ r ≡ true) ⊎ (apart r ≡ true) → end r + gapOf left ≤ start (suc r)
@@ -103,7 +73,7 @@ module _ (s : Session) (ws : List ℕ) where
           out (inl k) = absurd (let l = ltb-true r (lineStart ws ℓ) k in omega arith)
           out (inr k) = absurd (let l = leb-true (lineStart ws (suc ℓ)) (suc r) k in omega arith)
 
-      lone : left ≡ false → (left ≡ true) ⊎ (singles ≡ true) → singles ≡ true
+      lone : left ≡ false → (left ≡ true) ⊎ (all-single ≡ true) → all-single ≡ true
       lone e (inl k) = absurd (true≢false (sym k ∙ e))
       lone e (inr k) = k
 
@@ -124,7 +94,7 @@ module _ (s : Session) (ws : List ℕ) where
       (every-more _ _ (at-all _ (s .fed) (λ ℓ l. at-all _ (s .runs) (λ r m. near ℓ r (S .ordered ℓ l r m) (leb (lineStart ws ℓ) r) refl (ltb (suc r) (lineStart ws (suc ℓ))) refl)))
       (every-more _ _ (lone left refl)
       (every-more _ _ (at-all _ (s .runs) (λ r l. le-leb _ _ (S .parents r l)))
-      (every-more _ _ (eq-eqb _ _ (S .counted))
+      (every-more _ _ (eq-eqb _ _ (S .join-count))
       every-none))))))))))))))
     where
       near : (ℓ r : ℕ) → (lineStart ws ℓ ≤ r → suc r < lineStart ws (suc ℓ) → end r + gapOf left ≤ start (suc r)) → (a : Bool)
@@ -133,9 +103,9 @@ module _ (s : Session) (ws : List ℕ) where
       near ℓ r f true ea false eb = or-left (beside ℓ r) (apart r) (or-right (ltb r (lineStart ws ℓ)) (leb (lineStart ws (suc ℓ)) (suc r)) (le-leb _ _ (ltb-false (suc r) (lineStart ws (suc ℓ)) eb)))
       near ℓ r f true ea true eb = or-right (beside ℓ r) (apart r) (le-leb _ _ (f (leb-true _ _ ea) (ltb-true _ _ eb)))
 
-      lone : (b : Bool) → left ≡ b → (left || singles) ≡ true
-      lone true e = or-left left singles e
-      lone false e = or-right left singles (at-all _ (s .runs) (λ r l. le-leb _ _ (S .single e r l)))
+      lone : (b : Bool) → left ≡ b → (left || all-single) ≡ true
+      lone true e = or-left left all-single e
+      lone false e = or-right left all-single (at-all _ (s .runs) (λ r l. le-leb _ _ (S .single e r l)))
 
 -- ---- of a sound record
 
@@ -146,11 +116,11 @@ module _ (s : Session) (ws : List ℕ) (S : Sound s ws) where
   -- n: as many as runs less joins, and as the groups that the parents hold
   pub n-roots : rootCount s ws ≡ s .runs - s .joins
   unfolding rootCount
-  n-roots = omega (arith, roots-count (parentOf (linesOf s) ws) (s .runs) (S .parents), S .counted)
+  n-roots = omega (arith, roots-count (parentOf (linesOf s) ws) (s .runs) (S .parents), S .join-count)
 
   pub n-joins : s .runs ≡ rootCount s ws + s .joins
   unfolding rootCount
-  n-joins = omega (arith, roots-others (parentOf (linesOf s) ws) (s .runs), S .counted)
+  n-joins = omega (arith, roots-others (parentOf (linesOf s) ws) (s .runs), S .join-count)
 
   pub n-groups : rootCount s ws ≡ groups (λ r. true) (groupingOf s ws) (s .runs)
   unfolding rootCount

@@ -82,7 +82,7 @@ module _ (s : Session) (ws : List ℕ) (cells : List Bool) (H : Stores s ws cell
         let o : Short (getD (lineRuns left (lineOf (width dims) cells ℓ)) i none) = rw e (line-short (lineOf (width dims) cells ℓ) i) in
         subst Short (sym q) o
 
-  module _ (ranked : badRank dims ≡ false) (dimensions : hasZero (leading dims) ≡ false) (limits : tooLarge dims ≡ false) (memory : wordsNeeded dims bytes ≤ length ws) (parents : (r : ℕ) → r < s .runs → parentOf (linesOf s) ws r ≤ r) (counted : s .joins ≡ nonRoots (parentOf (linesOf s) ws) (s .runs)) where
+  module _ (ranked : badRank dims ≡ false) (dimensions : hasZero (leading dims) ≡ false) (limits : tooLarge dims ≡ false) (memory : wordsNeeded dims bytes ≤ length ws) (parents : (r : ℕ) → r < s .runs → parentOf (linesOf s) ws r ≤ r) (join-count : s .joins ≡ nonRoots (parentOf (linesOf s) ws) (s .runs)) where
     pub stores-sound : Sound s ws
     stores-sound = record {
       ranked = ranked;
@@ -99,5 +99,5 @@ module _ (s : Session) (ws : List ℕ) (cells : List Bool) (H : Stores s ws cell
       ordered = λ ℓ h r k. next-starts ℓ h r;
       single = λ e r h. run-short r h e;
       parents = parents;
-      counted = counted;
+      join-count = join-count;
     }

@@ -14,7 +14,7 @@ use Rattle.frame.specs.Touches.{reaches, used, hasNbr, nbrLine, touchesBy, touc
 use Rattle.frame.specs.Kinds.{largest, holds}
 use Rattle.frame.specs.Memory.{perLine, wordsNeeded}
 use Rattle.frame.specs.Causes.{badRank, hasZero, tooLarge, firstCause, openTests, openCause, feedTests, feedCause, readTests, readCause, sizesTests, sizesCause, frameTests, frameCause}
-use Rattle.frame.specs.Plain.{Figures, fed, unless, kept, feeds, groupsOf, figures}
+use Rattle.frame.specs.Plain.{Figures, unless, kept, feeds, groupsOf, figures}
 use Rattle.label.specs.declared.Session.{Session}
 use Rattle.label.specs.Lists.{all, every, lastBelow, entries, padded, setAll}
 use Rattle.label.specs.Words.{shapeOf, structureOf}

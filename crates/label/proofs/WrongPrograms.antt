@@ -5,7 +5,6 @@ use mathlib.Core.List.{List, [], _∷_, _++_}
 use Prim.Native.Nat.{ℕ, suc, _≤_, _<_}
 use native.Mathlib.Omega.{arith}
 use lib.ListN.{length, getD, set, replicate}
-use Rattle.groups.specs.Groups.{joins}
 use Rattle.frame.specs.Kinds.{u8}
 use Rattle.frame.specs.Plain.{Figures, Answer, fed, counted, refused}
 use Rattle.label.specs.declared.Session.{Session}
@@ -130,37 +129,37 @@ feeds-unsound l g s ws P = let z : _≡_ {A = ℕ} 0 6 = ap numberSaid (P .said)
 
 -- readings after two lines
 
-abbrev Reads : Answer → Session → List ℕ → List ℕ → Type 0
-Reads = ReadPromise u8 (two .session) (two .words) junk
+abbrev Reading : Answer → Session → List ℕ → List ℕ → Type 0
+Reading = ReadPromise u8 (two .session) (two .words) junk
 
 -- it numbers all nonzero cells 1; each run apart; unfed cells are left as they were
-all-one : (a : Answer) (s : Session) (ws : List ℕ) → Reads a s ws (1 ∷ 0 ∷ 1 ∷ 1 ∷ 0 ∷ 1 ∷ 0 ∷ 0 ∷ 0 ∷ []) → ⊥
+all-one : (a : Answer) (s : Session) (ws : List ℕ) → Reading a s ws (1 ∷ 0 ∷ 1 ∷ 1 ∷ 0 ∷ 1 ∷ 0 ∷ 0 ∷ 0 ∷ []) → ⊥
 unfolding begun one two computed
 all-one a s ws P = let z : _≡_ {A = ℕ} 1 2 = ap (word 2) (P .output) in omega arith
 
-each-apart : (a : Answer) (s : Session) (ws : List ℕ) → Reads a s ws (1 ∷ 0 ∷ 2 ∷ 3 ∷ 0 ∷ 4 ∷ 0 ∷ 0 ∷ 0 ∷ []) → ⊥
+each-apart : (a : Answer) (s : Session) (ws : List ℕ) → Reading a s ws (1 ∷ 0 ∷ 2 ∷ 3 ∷ 0 ∷ 4 ∷ 0 ∷ 0 ∷ 0 ∷ []) → ⊥
 unfolding begun one two computed
 each-apart a s ws P = let z : _≡_ {A = ℕ} 3 1 = ap (word 3) (P .output) in omega arith
 
-leaves-unfed : (a : Answer) (s : Session) (ws : List ℕ) → Reads a s ws (1 ∷ 0 ∷ 2 ∷ 1 ∷ 0 ∷ 2 ∷ 5 ∷ 5 ∷ 5 ∷ []) → ⊥
+leaves-unfed : (a : Answer) (s : Session) (ws : List ℕ) → Reading a s ws (1 ∷ 0 ∷ 2 ∷ 1 ∷ 0 ∷ 2 ∷ 5 ∷ 5 ∷ 5 ∷ []) → ⊥
 unfolding begun one two computed
 leaves-unfed a s ws P = let z : _≡_ {A = ℕ} 5 0 = ap (word 6) (P .output) in omega arith
 
 -- 10 before n is compared
-early-ten : (s : Session) (ws out : List ℕ) → Reads (refused 10) s ws out → ⊥
+early-ten : (s : Session) (ws out : List ℕ) → Reading (refused 10) s ws out → ⊥
 unfolding begun one two computed
 early-ten s ws out P = let z : _≡_ {A = ℕ} 10 0 = ap numberSaid (P .said) in omega arith
 
 -- the name of run 2 is its own number, from 1; its parent changes; another record comes back
-names-runs : (a : Answer) (s : Session) (ws out : List ℕ) → Reads a s ws out → word 15 ws ≡ 3 → ⊥
+names-runs : (a : Answer) (s : Session) (ws out : List ℕ) → Reading a s ws out → word 15 ws ≡ 3 → ⊥
 unfolding begun one two computed
 names-runs a s ws out P e = let z : word 15 ws ≡ 1 = ap (word 15) (P .words) in omega arith
 
-changes-parent : (a : Answer) (s : Session) (ws out : List ℕ) → Reads a s ws out → word 14 ws ≡ 2 → ⊥
+changes-parent : (a : Answer) (s : Session) (ws out : List ℕ) → Reading a s ws out → word 14 ws ≡ 2 → ⊥
 unfolding begun one two computed
 changes-parent a s ws out P e = let z : word 14 ws ≡ 0 = ap (word 14) (P .words) in omega arith
 
-another-record : (a : Answer) (ws out : List ℕ) → Reads a (held 2 4 3) ws out → ⊥
+another-record : (a : Answer) (ws out : List ℕ) → Reading a (held 2 4 3) ws out → ⊥
 unfolding begun one two computed
 another-record a ws out P = let z : _≡_ {A = ℕ} 3 2 = ap (λ (x : Session). x .joins) (P .session) in omega arith
 
@@ -176,15 +175,15 @@ names-ten a s ws out P e = let z : word 5 ws ≡ 7 = ap (word 5) (P .words) in o
 
 -- size calls after two lines
 
-abbrev Sizes : Answer → Session → List ℕ → List ℕ → Type 0
-Sizes = SizesPromise (two .session) (two .words) (5 ∷ 5 ∷ [])
+abbrev Sizing : Answer → Session → List ℕ → List ℕ → Type 0
+Sizing = SizesPromise (two .session) (two .words) (5 ∷ 5 ∷ [])
 
 -- the sizes of numbers 0 and 1, in place of 1 and 2; no names are written
-shifted : (a : Answer) (s : Session) (ws : List ℕ) → Sizes a s ws (5 ∷ 2 ∷ []) → ⊥
+shifted : (a : Answer) (s : Session) (ws : List ℕ) → Sizing a s ws (5 ∷ 2 ∷ []) → ⊥
 unfolding begun one two computed
 shifted a s ws P = let z : _≡_ {A = ℕ} 5 2 = ap (word 0) (P .output) in omega arith
 
-names-none : (a : Answer) (s : Session) (out : List ℕ) → Sizes a s (two .words) out → ⊥
+names-none : (a : Answer) (s : Session) (out : List ℕ) → Sizing a s (two .words) out → ⊥
 unfolding begun one two computed
 names-none a s out P = let z : _≡_ {A = ℕ} 7 1 = ap (word 7) (P .words) in omega arith
 
@@ -228,7 +227,7 @@ whole-names a ws out P e =
     let z : numberIn (parentOf 3 v) 0 ≡ 1 = rw root in
     omega (arith, ap (word 7) n)
 
--- refused with 9, it has openRecord: word 0 is written
+-- refused with 9, it has opened: word 0 is written
 whole-nine : (a : Answer) (out : List ℕ) → Labels (5 ∷ []) a (set memory 0 0) out → ⊥
 unfolding computed
 whole-nine a out P = let h : 0 < 9 = omega arith in let z : _≡_ {A = ℕ} 0 7 = ap (word 0) (P .refusal h) in omega arith

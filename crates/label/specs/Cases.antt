@@ -1,4 +1,4 @@
--- Document 01's number for each cause, and its values for each case of an answer. A contract says a promise of these.
+-- Document 01's number for each cause, and its values for each case of an answer. A contract will say a promise of these.
 -- Assumes nothing.
 use Prim.Native.Nat.{ℕ}
 use Rattle.frame.specs.Plain.{Answer, fed, counted, refused}

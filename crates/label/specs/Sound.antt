@@ -69,7 +69,7 @@ module _ (s : Session) (ws : List ℕ) where
     -- a parent above its run
     pub parents : (r : ℕ) → r < s .runs → parent r ≤ r
     -- joins not the count of runs whose parent isn't themselves
-    pub counted : s .joins ≡ nonRoots parent (s .runs)
+    pub join-count : s .joins ≡ nonRoots parent (s .runs)
 
   -- computed: that it decides `Sound` is proved in proofs/SoundLaws.antt
   unfoldable pub sound : Bool

@@ -1,5 +1,4 @@
--- What labelling a whole frame promises: opening, feeding and reading in one call. The block count changes no answer, so it
--- stands in no promise.
+-- What labelling a whole frame promises: opening, feeding and reading in one call. The block count stands in no promise.
 -- Assumes nothing.
 use mathlib.Core.Path.{_≡_}
 use mathlib.Core.Bool.{Bool, true, cond}

@@ -1,5 +1,4 @@
--- A record's shape and structure, and where each thing stands in the words. The layout is said here alone, but for `stride`, the words
--- of a run, which stands with the words needed (crate frame, Memory).
+-- A record's shape and structure, and the layout of the words, said here alone but for `stride` (crate frame, Memory).
 -- Assumes nothing.
 use mathlib.Core.Logic.{_≢_}
 use mathlib.Core.List.{List}
