@@ -1,4 +1,4 @@
--- Document 01's frame 1 worked out by the plain calls, and what a computation opens. proofs/Answers.antt and proofs/WrongPrograms.antt use it.
+-- Document 01's frame 1 worked out by the plain functions, and what a computation opens.
 -- Assumes nothing.
 use mathlib.Core.Bool.{Bool, true, false}
 use mathlib.Core.List.{List, [], _∷_, _++_, zipWith}
