@@ -20,7 +20,7 @@ use Rattle.frame.proofs.KindLaws.{value-write}
 use Rattle.frame.proofs.CauseLaws.{accepted-read, accepted-sizes}
 use Rattle.frame.proofs.PlainLaws.{unless-none, kept-new}
 use Rattle.label.specs.declared.Session.{Session}
-use Rattle.label.specs.Words.{shapeOf, structureOf}
+use Rattle.label.specs.Record.{shapeOf, structureOf}
 use Rattle.label.specs.Held.{figuresOf, cellsOf, rootCount, numbersHeld, sizesHeld}
 use Rattle.label.specs.Reading.{countedOf, readCauseOf, ReadPromise, sizesCauseOf, SizesPromise}
 use Rattle.label.proofs.ListLaws.{listed-from}

@@ -5,7 +5,7 @@ use mathlib.Core.List.{List}
 use Prim.Native.Nat.{ℕ}
 use Rattle.frame.specs.Plain.{Call, Answered, State, opened, plain, after}
 use Rattle.label.specs.declared.Session.{Session}
-use Rattle.label.specs.Words.{shapeOf}
+use Rattle.label.specs.Record.{shapeOf}
 use Rattle.label.specs.Opening.{OpenPromise}
 use Rattle.label.proofs.OpenLaws.{open-starts}
 use Rattle.calls.specs.Trace.{Trace}

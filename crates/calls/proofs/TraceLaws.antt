@@ -6,7 +6,7 @@ use Prim.Native.Nat.{ℕ}
 use Rattle.frame.specs.Kinds.{flags}
 use Rattle.frame.specs.Plain.{Call, feed, read, sizes, Answered, State, plain, after}
 use Rattle.label.specs.declared.Session.{Session}
-use Rattle.label.specs.Words.{shapeOf}
+use Rattle.label.specs.Record.{shapeOf}
 use Rattle.label.proofs.Invariant.{stateOf, Inv}
 use Rattle.label.proofs.KeepLaws.{Follows, feed-follows, read-follows, sizes-follows}
 use Rattle.label.proofs.FitLaws.{Words32, feed-words-fit, read-words-fit, sizes-words-fit}

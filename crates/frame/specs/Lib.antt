@@ -5,6 +5,7 @@ pub mod Runs
 pub mod Touches
 pub mod Kinds
 pub mod Memory
+pub mod Words
 pub mod Causes
 pub mod Plain
 pub mod Frames

@@ -12,7 +12,7 @@ use Rattle.frame.proofs.ShapeLaws.{Fits}
 use Rattle.frame.proofs.CauseLaws.{rank-right, feed-accepted, accepted-feed}
 use Rattle.frame.proofs.PlainLaws.{unless-none, kept-new}
 use Rattle.label.specs.declared.Session.{Session}
-use Rattle.label.specs.Words.{shapeOf, linesOf}
+use Rattle.label.specs.Record.{shapeOf, linesOf}
 use Rattle.label.specs.Sound.{Sound, sound}
 use Rattle.label.specs.Held.{figuresOf}
 use Rattle.label.specs.Feeding.{feedRecord, feedCauseOf, FeedWords, FeedPromise}

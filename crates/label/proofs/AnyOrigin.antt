@@ -14,14 +14,15 @@ use Rattle.groups.proofs.QuotientLaws.{Onto, by-runs}
 use Rattle.frame.specs.Shape.{size}
 use Rattle.frame.specs.ChainRule.{nonzero, Step}
 use Rattle.frame.specs.Runs.{runOf}
+use Rattle.frame.specs.Words.{parentOf}
 use Rattle.frame.proofs.ShapeLaws.{fits-size}
 use Rattle.frame.proofs.RunLaws.{startOf, RunStep, runs-onto}
+use Rattle.forest.specs.Forest.{numberIn}
+use Rattle.forest.proofs.ForestLaws.{number-groups, grouping-ends, grouping-rep}
 use Rattle.label.specs.declared.Session.{Session}
-use Rattle.label.specs.Words.{shapeOf, structureOf, linesOf, parentOf}
-use Rattle.label.specs.Forest.{numberIn}
+use Rattle.label.specs.Record.{shapeOf, structureOf, linesOf}
 use Rattle.label.specs.Sound.{Sound}
 use Rattle.label.specs.Held.{cellsOf, holderOf, groupingOf, HeldStep, rootCount, numberAt}
-use Rattle.label.proofs.ForestLaws.{number-groups, grouping-ends, grouping-rep}
 use Rattle.label.proofs.SoundLaws.{n-groups}
 use Rattle.label.proofs.StoreLaws.{Stores, stores-below, stores-holder}
 use Rattle.label.proofs.SoundCells.{sound-stores, runs-held}

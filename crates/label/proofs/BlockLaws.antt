@@ -17,16 +17,17 @@ use Rattle.frame.specs.Runs.{runsBefore, frameRun}
 use Rattle.frame.specs.Touches.{frameTouches}
 use Rattle.frame.specs.Memory.{wordsNeeded}
 use Rattle.frame.specs.Plain.{Answer}
+use Rattle.frame.specs.Words.{endPlace, parentOf}
 use Rattle.frame.proofs.TouchLaws.{touches-split}
 use Rattle.frame.proofs.GrowLaws.{touches-stay}
+use Rattle.forest.proofs.ForestLaws.{grouping-rep-all, grouping-joins}
 use Rattle.label.specs.declared.Session.{Session}
 use Rattle.label.specs.Lists.{sum}
-use Rattle.label.specs.Words.{shapeOf, structureOf, linesOf, endPlace, parentOf, withFigures}
+use Rattle.label.specs.Record.{shapeOf, structureOf, linesOf, withFigures}
 use Rattle.label.specs.Sound.{Sound}
 use Rattle.label.specs.Held.{cellsOf, groupingOf}
 use Rattle.label.specs.Feeding.{runsAfter, feedTouches, feedEdges, feedRecord, FeedWords, FeedPromise}
 use Rattle.label.specs.WholeFrame.{chop, blocks, Fills, no-more, block}
-use Rattle.label.proofs.ForestLaws.{grouping-rep-all, grouping-joins}
 use Rattle.label.proofs.AcceptedLaws.{Accepted, accepted-cause, accepted-session}
 use Rattle.label.proofs.StoreLaws.{Stores}
 use Rattle.label.proofs.SoundCells.{sound-stores}

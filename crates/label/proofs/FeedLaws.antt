@@ -18,17 +18,18 @@ use Rattle.frame.specs.Shape.{width, leading}
 use Rattle.frame.specs.Runs.{runs, Run, runsBefore, frameRun}
 use Rattle.frame.specs.Touches.{frameTouches}
 use Rattle.frame.specs.Memory.{stride, perLine, wordsNeeded}
+use Rattle.frame.specs.Words.{namePlace, lineStart, parentOf, storedRun}
 use Rattle.frame.proofs.ShapeLaws.{Fits}
 use Rattle.frame.proofs.FrameRunLaws.{start-le, starts-few, runs-all}
 use Rattle.frame.proofs.TouchLaws.{touches-below, touches-same}
 use Rattle.frame.proofs.GrowLaws.{starts-stay, run-stays, starts-new, run-new}
+use Rattle.forest.specs.Forest.{nonRoots}
+use Rattle.forest.proofs.ForestLaws.{roots-others, roots-groups, grouping-ends}
 use Rattle.label.specs.declared.Session.{Session}
-use Rattle.label.specs.Words.{shapeOf, structureOf, linesOf, namePlace, lineStart, parentOf, storedRun}
-use Rattle.label.specs.Forest.{nonRoots}
+use Rattle.label.specs.Record.{shapeOf, structureOf, linesOf}
 use Rattle.label.specs.Sound.{Sound}
 use Rattle.label.specs.Held.{groupingOf}
 use Rattle.label.specs.Feeding.{runsAfter, startAfter, runAfter, feedTouches, feedEdges, feedRecord, FeedWords}
-use Rattle.label.proofs.ForestLaws.{roots-others, roots-groups, grouping-ends}
 use Rattle.label.proofs.StoreLaws.{Stores}
 use Rattle.label.proofs.StoredSound.{stores-sound}
 use Rattle.label.proofs.FeedWordLaws.{Wrote, wrote}

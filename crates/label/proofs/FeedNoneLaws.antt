@@ -10,15 +10,16 @@ use Rattle.groups.specs.Groups.{joins, gather, visit}
 use Rattle.frame.specs.Runs.{runs}
 use Rattle.frame.specs.Touches.{touches}
 use Rattle.frame.specs.Plain.{Answer}
+use Rattle.frame.specs.Words.{parentOf}
 use Rattle.frame.proofs.FrameRunLaws.{start-zero, runs-all}
 use Rattle.frame.proofs.PlainLaws.{kept-old}
+use Rattle.forest.proofs.ForestLaws.{grouping-rep, grouping-joins}
 use Rattle.label.specs.declared.Session.{Session}
 use Rattle.label.specs.Lists.{setAll}
-use Rattle.label.specs.Words.{shapeOf, structureOf, linesOf, parentOf, withFigures}
+use Rattle.label.specs.Record.{shapeOf, structureOf, linesOf, withFigures}
 use Rattle.label.specs.Sound.{Sound}
 use Rattle.label.specs.Held.{groupingOf}
 use Rattle.label.specs.Feeding.{runsAfter, feedTouches, feedEdges, feedRecord, withLines, withRuns, feedCauseOf, FeedWords, FeedPromise}
-use Rattle.label.proofs.ForestLaws.{grouping-rep, grouping-joins}
 use Rattle.label.proofs.AcceptedLaws.{Accepted, cause-accepted, accepted-fits, accepted-session}
 
 module _ (s : Session) (ws : List ℕ) (cells : List Bool) (G : Accepted s ws 0 cells) where

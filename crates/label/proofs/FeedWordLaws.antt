@@ -11,9 +11,10 @@ use lib.Dec.{eqb, ltb, leb}
 use lib.ListN.{length, getD}
 use Rattle.frame.specs.ChainRule.{any}
 use Rattle.frame.specs.Runs.{runs, Run}
+use Rattle.frame.specs.Words.{linePlace, startPlace, endPlace, lineStart, storedRun, NoParent}
 use Rattle.frame.proofs.ChainRuleLaws.{any-found, any-at}
 use Rattle.label.specs.declared.Session.{Session}
-use Rattle.label.specs.Words.{shapeOf, structureOf, linesOf, linePlace, startPlace, endPlace, lineStart, storedRun, NoParent}
+use Rattle.label.specs.Record.{shapeOf, structureOf, linesOf}
 use Rattle.label.specs.Feeding.{runsAfter, startAfter, runAfter, withLines, withRuns, FeedWords}
 use Rattle.label.proofs.SetLaws.{length-setAll, setAll-other, setAll-at}
 

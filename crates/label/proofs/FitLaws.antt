@@ -18,19 +18,20 @@ use Rattle.frame.specs.Runs.{beginsRun, runs}
 use Rattle.frame.specs.Kinds.{Number, largest, holds, Value}
 use Rattle.frame.specs.Causes.{tooLarge}
 use Rattle.frame.specs.Plain.{Answer, kept}
+use Rattle.frame.specs.Words.{parentPlace, lineStart, parentOf, NoParent}
 use Rattle.frame.proofs.ChainRuleLaws.{any-found, any-at}
 use Rattle.frame.proofs.LineLaws.{Within}
 use Rattle.frame.proofs.CauseLaws.{read-accepted, sizes-accepted}
+use Rattle.forest.specs.Forest.{rootOf, numberIn}
+use Rattle.forest.proofs.ForestLaws.{roots-others, root-le}
 use Rattle.label.specs.declared.Session.{Session}
 use Rattle.label.specs.Lists.{setAll}
-use Rattle.label.specs.Words.{shapeOf, structureOf, linesOf, parentPlace, lineStart, parentOf, NoParent}
-use Rattle.label.specs.Forest.{rootOf, numberIn}
+use Rattle.label.specs.Record.{shapeOf, structureOf, linesOf}
 use Rattle.label.specs.Sound.{Sound, sound}
 use Rattle.label.specs.Held.{cellsOf, HeldStep, rootCount, numberAt, sizeAt}
 use Rattle.label.specs.Opening.{openWords}
 use Rattle.label.specs.Feeding.{runsAfter, startAfter, runAfter, feedRecord, withLines, withRuns, feedCauseOf, FeedWords, FeedPromise}
 use Rattle.label.specs.Reading.{withNames, readCauseOf, ReadPromise, sizesCauseOf, SizesPromise}
-use Rattle.label.proofs.ForestLaws.{roots-others, root-le}
 use Rattle.label.proofs.SoundLaws.{sound-right, starts-rise, n-joins}
 use Rattle.label.proofs.AcceptedLaws.{Accepted, cause-accepted}
 use Rattle.label.proofs.StoreLaws.{Stores}

@@ -11,8 +11,9 @@ use Rattle.groups.proofs.BoolLaws.{and-true, and-left, and-right}
 use Rattle.frame.specs.Shape.{width}
 use Rattle.frame.specs.ChainRule.{nonzero, any}
 use Rattle.frame.specs.Runs.{Covers}
+use Rattle.frame.specs.Words.{lineStart, runStart, runEnd, storedRun}
 use Rattle.label.specs.declared.Session.{Session}
-use Rattle.label.specs.Words.{shapeOf, linesOf, lineStart, runStart, runEnd, storedRun}
+use Rattle.label.specs.Record.{shapeOf, linesOf}
 use Rattle.label.specs.Held.{holdsCell, cellsOf}
 use Rattle.label.proofs.ListLaws.{listed-at, listed-length}
 

@@ -16,14 +16,15 @@ use Rattle.frame.specs.Runs.{runs, runOf}
 use Rattle.frame.specs.Touches.{frameTouches}
 use Rattle.frame.specs.Kinds.{Number, write}
 use Rattle.frame.specs.Plain.{State, groupsOf, figures}
+use Rattle.frame.specs.Words.{parentOf}
 use Rattle.frame.proofs.RunGroupLaws.{groups-visited, number-visited}
+use Rattle.forest.specs.Forest.{rootOf, numberIn}
+use Rattle.forest.proofs.ForestLaws.{roots-groups, number-groups}
 use Rattle.label.specs.declared.Session.{Session}
-use Rattle.label.specs.Words.{shapeOf, structureOf, linesOf, parentOf}
-use Rattle.label.specs.Forest.{rootOf, numberIn}
+use Rattle.label.specs.Record.{shapeOf, structureOf, linesOf}
 use Rattle.label.specs.Sound.{Sound}
 use Rattle.label.specs.Held.{figuresOf, cellsOf, holderOf, rootCount, numberAt, sizeAt, numbersHeld, sizesHeld}
 use Rattle.label.proofs.ListLaws.{same-map, map-twice}
-use Rattle.label.proofs.ForestLaws.{roots-groups, number-groups}
 use Rattle.label.proofs.SoundLaws.{n-joins}
 use Rattle.label.proofs.StoreLaws.{Stores, stores-below, stores-holder}
 use Rattle.label.proofs.SoundCells.{sound-stores, runs-held}

@@ -12,17 +12,18 @@ use Rattle.groups.proofs.VisitLaws.{ends-visit}
 use Rattle.frame.specs.Touches.{frameTouches}
 use Rattle.frame.specs.Kinds.{Cells, flags, Number, Value}
 use Rattle.frame.specs.Plain.{Call, feed, read, sizes, Answer, fed, counted, nothing, numbers, counts, Answered, written, unless, kept, feeds, groupsOf, figures, cause, answer, answered, next}
+use Rattle.frame.specs.Words.{parentOf}
 use Rattle.frame.proofs.RunGroupLaws.{touches-runs}
 use Rattle.frame.proofs.GrowLaws.{rep-grow}
 use Rattle.frame.proofs.PlainLaws.{unless-same, kept-old, kept-same, next-feeds, next-stays}
+use Rattle.forest.specs.Forest.{rootOf}
+use Rattle.forest.proofs.ForestLaws.{grouping-rep-all}
 use Rattle.label.specs.declared.Session.{Session}
-use Rattle.label.specs.Words.{shapeOf, structureOf, linesOf, parentOf}
-use Rattle.label.specs.Forest.{rootOf}
+use Rattle.label.specs.Record.{shapeOf, structureOf, linesOf}
 use Rattle.label.specs.Sound.{Sound, sound}
 use Rattle.label.specs.Held.{figuresOf, cellsOf, groupingOf}
 use Rattle.label.specs.Feeding.{feedEdges, feedRecord, feedCauseOf, FeedWords, FeedPromise}
 use Rattle.label.specs.Reading.{withNames, countedOf, readCauseOf, ReadPromise, sizesCauseOf, SizesPromise}
-use Rattle.label.proofs.ForestLaws.{grouping-rep-all}
 use Rattle.label.proofs.SoundLaws.{right-sound}
 use Rattle.label.proofs.AcceptedLaws.{Accepted, cause-accepted, accepted-session}
 use Rattle.label.proofs.StoreLaws.{Stores, stores-cells}

@@ -1,7 +1,6 @@
 pub mod ListLaws
 pub mod SetLaws
 pub mod EntryLaws
-pub mod ForestLaws
 pub mod SoundLaws
 pub mod AcceptedLaws
 pub mod HoldLaws

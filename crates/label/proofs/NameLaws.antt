@@ -7,9 +7,10 @@ use mathlib.Core.List.{List}
 use Prim.Native.Nat.{ℕ, _≤_, _<_}
 use native.Mathlib.Omega.{arith}
 use lib.ListN.{length, getD}
+use Rattle.frame.specs.Words.{namePlace, parentOf, nameOf}
+use Rattle.forest.specs.Forest.{nonRoots, numberIn}
 use Rattle.label.specs.declared.Session.{Session}
-use Rattle.label.specs.Words.{linesOf, namePlace, parentOf, nameOf}
-use Rattle.label.specs.Forest.{nonRoots, numberIn}
+use Rattle.label.specs.Record.{linesOf}
 use Rattle.label.specs.Sound.{Sound}
 use Rattle.label.specs.Held.{cellsOf}
 use Rattle.label.specs.Reading.{withNames}

@@ -14,16 +14,17 @@ use Rattle.frame.specs.ChainRule.{any}
 use Rattle.frame.specs.Runs.{runs}
 use Rattle.frame.specs.Kinds.{Number, Value}
 use Rattle.frame.specs.Plain.{Answer, kept}
+use Rattle.frame.specs.Words.{namePlace, parentOf, NoParent}
 use Rattle.frame.proofs.ChainRuleLaws.{any-found, any-at}
 use Rattle.frame.proofs.PlainLaws.{kept-new, kept-old}
+use Rattle.forest.specs.Forest.{rootOf}
+use Rattle.forest.proofs.ForestLaws.{numbers-same}
 use Rattle.label.specs.declared.Session.{Session}
-use Rattle.label.specs.Words.{shapeOf, linesOf, namePlace, parentOf, NoParent}
-use Rattle.label.specs.Forest.{rootOf}
+use Rattle.label.specs.Record.{shapeOf, linesOf}
 use Rattle.label.specs.Opening.{openRecord, openWords, OpenPromise}
 use Rattle.label.specs.Feeding.{runsAfter, feedRecord, feedCauseOf, FeedWords, FeedPromise}
 use Rattle.label.specs.Reading.{withNames, ReadPromise, SizesPromise}
 use Rattle.label.specs.WholeFrame.{earlyCauseOf, frameCauseOf, FrameWords, FramePromise}
-use Rattle.label.proofs.ForestLaws.{numbers-same}
 use Rattle.label.proofs.FeedLaws.{feed-shape}
 use Rattle.label.proofs.NameLaws.{length-names, names-other, parents-stand, names-at}
 use Rattle.label.proofs.FrameLaws.{frame-feeds, frame-runs, frame-lines, frame-room}

@@ -16,10 +16,10 @@ use Rattle.frame.specs.Plain.{opened}
 use Rattle.frame.proofs.FrameRunLaws.{start-zero}
 use Rattle.frame.proofs.CauseLaws.{rank-right, Allowed, open-accepted}
 use Rattle.frame.proofs.PlainLaws.{kept-new}
+use Rattle.forest.specs.Forest.{nonRoots}
 use Rattle.label.specs.declared.Session.{Session}
 use Rattle.label.specs.Lists.{entries, padded}
-use Rattle.label.specs.Words.{shapeOf, structureOf}
-use Rattle.label.specs.Forest.{nonRoots}
+use Rattle.label.specs.Record.{shapeOf, structureOf}
 use Rattle.label.specs.Sound.{Sound}
 use Rattle.label.specs.Opening.{openRecord, openWords, blank, OpenPromise}
 use Rattle.label.proofs.EntryLaws.{entries-padded}

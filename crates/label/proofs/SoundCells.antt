@@ -12,12 +12,13 @@ use Rattle.frame.specs.Shape.{width}
 use Rattle.frame.specs.Structure.{leftOn}
 use Rattle.frame.specs.ChainRule.{nonzero, any, range}
 use Rattle.frame.specs.Runs.{runs, Run, none, Covers, gapOf, lineOf, frameRuns, runsBefore, frameRun}
+use Rattle.frame.specs.Words.{lineStart, storedRun}
 use Rattle.frame.proofs.ChainRuleLaws.{any-found, any-at, nonzero-below}
 use Rattle.frame.proofs.LineLaws.{In, Apart, Within, in-below}
 use Rattle.frame.proofs.FrameRunLaws.{start-zero, start-suc, run-at, located, nonzero-line, short, runs-all}
 use Rattle.frame.proofs.CauseLaws.{rank-right}
 use Rattle.label.specs.declared.Session.{Session}
-use Rattle.label.specs.Words.{shapeOf, structureOf, linesOf, lineStart, storedRun}
+use Rattle.label.specs.Record.{shapeOf, structureOf, linesOf}
 use Rattle.label.specs.Sound.{Sound}
 use Rattle.label.specs.Held.{holdsCell, cellsOf}
 use Rattle.label.proofs.ListLaws.{listed-at, listed-length}

@@ -14,13 +14,14 @@ use Rattle.groups.specs.Groups.{groups}
 use Rattle.groups.proofs.BoolLaws.{or-left, or-right, or-cases}
 use Rattle.frame.specs.Structure.{leftOn}
 use Rattle.frame.specs.Runs.{gapOf}
+use Rattle.frame.specs.Words.{lineStart, runStart, runEnd, parentOf}
+use Rattle.forest.proofs.ForestLaws.{roots-others, roots-count, roots-grouping}
 use Rattle.label.specs.declared.Session.{Session}
 use Rattle.label.specs.Lists.{all}
-use Rattle.label.specs.Words.{shapeOf, structureOf, linesOf, lineStart, runStart, runEnd, parentOf}
+use Rattle.label.specs.Record.{shapeOf, structureOf, linesOf}
 use Rattle.label.specs.Sound.{Sound, sound}
 use Rattle.label.specs.Held.{groupingOf, rootCount}
 use Rattle.label.proofs.ListLaws.{all-at, at-all, every-at, every-more, every-none}
-use Rattle.label.proofs.ForestLaws.{roots-others, roots-count, roots-grouping}
 
 -- ---- the test decides
 

@@ -10,11 +10,12 @@ use lib.Seq.{ext-getD}
 use Rattle.frame.specs.Shape.{width}
 use Rattle.frame.specs.ChainRule.{nonzero, any}
 use Rattle.frame.specs.Runs.{runOf, Run, Covers, runsBefore, frameRun}
+use Rattle.frame.specs.Words.{lineStart, storedRun}
 use Rattle.frame.proofs.ShapeLaws.{factor-pos, Fits}
 use Rattle.frame.proofs.ChainRuleLaws.{any-found, any-at, nonzero-below}
 use Rattle.frame.proofs.FrameRunLaws.{start-le, run-cells, line-below, InRun, cell-run}
 use Rattle.label.specs.declared.Session.{Session}
-use Rattle.label.specs.Words.{shapeOf, structureOf, linesOf, lineStart, storedRun}
+use Rattle.label.specs.Record.{shapeOf, structureOf, linesOf}
 use Rattle.label.specs.Held.{holdsCell, cellsOf, holderOf}
 use Rattle.label.proofs.ListLaws.{last-only}
 use Rattle.label.proofs.HoldLaws.{holds-parts, parts-hold, length-held, nonzero-held}

@@ -12,11 +12,12 @@ use Rattle.frame.specs.Structure.{leftOn}
 use Rattle.frame.specs.Runs.{Run, none, lineRuns, gapOf, lineOf, frameRuns, runsBefore, frameRun}
 use Rattle.frame.specs.Memory.{perLine, wordsNeeded}
 use Rattle.frame.specs.Causes.{badRank, hasZero, tooLarge}
+use Rattle.frame.specs.Words.{lineStart, runStart, runEnd, parentOf, storedRun}
 use Rattle.frame.proofs.LineLaws.{Within}
 use Rattle.frame.proofs.FrameRunLaws.{start-zero, start-suc, start-le, run-at, Located, located, runs-few, run-within, run-order}
+use Rattle.forest.specs.Forest.{nonRoots}
 use Rattle.label.specs.declared.Session.{Session}
-use Rattle.label.specs.Words.{shapeOf, structureOf, linesOf, lineStart, runStart, runEnd, parentOf, storedRun}
-use Rattle.label.specs.Forest.{nonRoots}
+use Rattle.label.specs.Record.{shapeOf, structureOf, linesOf}
 use Rattle.label.specs.Sound.{Sound}
 use Rattle.label.proofs.StoreLaws.{Stores}
 use Rattle.label.proofs.ApartLaws.{Short, line-short}

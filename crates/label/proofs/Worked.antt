@@ -15,10 +15,10 @@ use Rattle.frame.specs.Kinds.{largest, holds}
 use Rattle.frame.specs.Memory.{perLine, wordsNeeded}
 use Rattle.frame.specs.Causes.{badRank, hasZero, tooLarge, firstCause, openTests, openCause, feedTests, feedCause, readTests, readCause, sizesTests, sizesCause, frameTests, frameCause}
 use Rattle.frame.specs.Plain.{Figures, unless, kept, feeds, groupsOf, figures}
+use Rattle.forest.specs.Forest.{up, rootOf, own, roots, nonRoots, numberIn, grouping}
 use Rattle.label.specs.declared.Session.{Session}
 use Rattle.label.specs.Lists.{all, every, lastBelow, entries, padded, setAll}
-use Rattle.label.specs.Words.{shapeOf, structureOf}
-use Rattle.label.specs.Forest.{up, rootOf, own, roots, nonRoots, numberIn, grouping}
+use Rattle.label.specs.Record.{shapeOf, structureOf}
 use Rattle.label.specs.Sound.{sound}
 use Rattle.label.specs.Held.{holdsCell, cellsOf, holderOf, rootCount, numberAt, sizeAt}
 use Rattle.label.specs.Feeding.{runsAfter, startAfter, runAfter, feedTouches, feedEdges, feedRecord, withLines, withRuns, feedCauseOf}

@@ -7,9 +7,9 @@ use native.Mathlib.Omega.{arith}
 use lib.ListN.{length, getD, set, replicate}
 use Rattle.frame.specs.Kinds.{u8}
 use Rattle.frame.specs.Plain.{Figures, Answer, fed, counted, refused}
+use Rattle.frame.specs.Words.{namePlace, parentOf}
+use Rattle.forest.specs.Forest.{numberIn}
 use Rattle.label.specs.declared.Session.{Session}
-use Rattle.label.specs.Words.{namePlace, parentOf}
-use Rattle.label.specs.Forest.{numberIn}
 use Rattle.label.specs.Opening.{OpenPromise}
 use Rattle.label.specs.Feeding.{FeedPromise}
 use Rattle.label.specs.Reading.{withNames, ReadPromise, SizesPromise}

@@ -1,6 +1,5 @@
 pub mod Lists
-pub mod Words
-pub mod Forest
+pub mod Record
 pub mod Sound
 pub mod Held
 pub mod Cases

@@ -6,9 +6,9 @@ use Prim.Native.Nat.{ℕ}
 use lib.ListN.{length, set}
 use Rattle.frame.specs.Causes.{openCause}
 use Rattle.frame.specs.Plain.{kept}
+use Rattle.frame.specs.Words.{linePlace}
 use Rattle.label.specs.declared.Session.{Session}
 use Rattle.label.specs.Lists.{padded}
-use Rattle.label.specs.Words.{linePlace}
 
 -- the record and the words of an accepted opening: it writes 0 to word 0 only
 abbrev pub openRecord : List ℕ → List ℕ → Session

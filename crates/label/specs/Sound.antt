@@ -11,10 +11,11 @@ use Rattle.frame.specs.Structure.{leftOn}
 use Rattle.frame.specs.Runs.{gapOf}
 use Rattle.frame.specs.Memory.{perLine, wordsNeeded}
 use Rattle.frame.specs.Causes.{badRank, hasZero, tooLarge}
+use Rattle.frame.specs.Words.{lineStart, runStart, runEnd, parentOf}
+use Rattle.forest.specs.Forest.{nonRoots}
 use Rattle.label.specs.declared.Session.{Session}
 use Rattle.label.specs.Lists.{all, every}
-use Rattle.label.specs.Words.{shapeOf, structureOf, linesOf, lineStart, runStart, runEnd, parentOf}
-use Rattle.label.specs.Forest.{nonRoots}
+use Rattle.label.specs.Record.{shapeOf, structureOf, linesOf}
 
 module _ (s : Session) (ws : List ℕ) where
   -- of the record: its shape, its structure, L, w, and whether its left byte is nonzero. Of the words: run r's start, end and

@@ -15,7 +15,7 @@ use Rattle.groups.specs.Numbers.{number}
 use Rattle.groups.proofs.CountLaws.{count-same, count-all}
 use Rattle.groups.proofs.RepLaws.{rep-le, rep-linked, rep-rep, rep-least, Ends, ends-all, rep-outside}
 use Rattle.groups.proofs.GroupLaws.{groups-joins, all-live}
-use Rattle.label.specs.Forest.{up, rootOf, own, roots, nonRoots, numberIn, grouping}
+use Rattle.forest.specs.Forest.{up, rootOf, own, roots, nonRoots, numberIn, grouping}
 
 module _ (p : ℕ → ℕ) where
   up-stays : (k r : ℕ) → p r ≡ r → up p k r ≡ r
@@ -75,6 +75,16 @@ module _ (p : ℕ → ℕ) where
     pub root-parent : (r : ℕ) → r < n → rootOf p (p r) ≡ rootOf p r
     unfolding rootOf up
     root-parent r h = let d = low r h in sym (up-more (p r) r (omega arith) d) ∙ up-suc r r ∙ up-root r r h (le-refl r)
+
+    along : (R : ℕ → ℕ) → ((r : ℕ) → r < n → R (p r) ≡ R r) → (k r : ℕ) → r < n → R (up p k r) ≡ R r
+    unfolding up
+    along R step zero r h = refl
+    along R step (suc k) r h = let d = low r h in along R step k (p r) (omega arith) ∙ step r h
+
+    -- only the root is the same at a run and at its parent, and at a root the run itself
+    pub root-unique : (R : ℕ → ℕ) → ((r : ℕ) → r < n → R (p r) ≡ R r) → ((r : ℕ) → r < n → p r ≡ r → R r ≡ r) → (r : ℕ) → r < n → rootOf p r ≡ R r
+    unfolding rootOf
+    root-unique R step stop r h = let l = up-le r r h in sym (stop (up p r r) (omega arith) (up-root r r h (le-refl r))) ∙ along R step r r h
 
     -- a run is a root exactly when it is its own
     pub own-root : (r : ℕ) → r < n → own p r ≡ eqb (rootOf p r) r

@@ -1,0 +1,182 @@
+-- Path halving keeps every root, and the smaller of two roots as the larger one's parent makes one group of two.
+-- Assumes nothing.
+use mathlib.Core.Path.{_≡_, refl, sym, ap, _∙_}
+use mathlib.Core.Logic.{_≢_, inl, inr}
+use mathlib.Core.Bool.{Bool, not}
+use mathlib.Core.List.{List, _∷_}
+use Prim.Native.Nat.{ℕ, suc, _*_, _≤_, _<_, min, max}
+use native.Mathlib.Decide.{ℕ-discrete}
+use native.Mathlib.Nat.{le-refl, le-trans}
+use native.Mathlib.Omega.{arith}
+use lib.Dec.{eqb}
+use lib.ListN.{length, set}
+use Rattle.groups.specs.Groups.{merge, rep}
+use Rattle.groups.proofs.RepLaws.{Merged, merged, merge-hit, merge-miss}
+use Rattle.frame.specs.Memory.{stride}
+use Rattle.frame.specs.Words.{parentAt}
+use Rattle.forest.specs.Forest.{rootOf, grouping}
+use Rattle.forest.specs.Unions.{parentIn, Parents, Kept, Found, Finds, Joined, Unites}
+use Rattle.forest.proofs.ForestLaws.{root-stays, root-le, root-root, root-parent, root-unique, grouping-rep}
+use Rattle.forest.proofs.ParentLaws.{kept-parents, kept-trans, put-same, put-other, put-kept}
+
+-- the parent's parent, and the words once it is the parent
+abbrev over : List ℕ → ℕ → ℕ
+over p x = parentIn p (parentIn p x)
+
+abbrev half : List ℕ → ℕ → List ℕ
+half p x = set p (parentAt x) (over p x)
+
+module _ (p : List ℕ) (n x : ℕ) (P : Parents p n) (h : x < n) where
+  up-low : parentIn p x ≤ x
+  up-low = P .low x h
+
+  over-low : over p x ≤ parentIn p x
+  over-low = P .low (parentIn p x) (omega (arith, up-low))
+
+  room : stride * suc x ≤ length p
+  room = omega (arith, P .room)
+
+  half-kept : Kept p (half p x) n
+  half-kept = put-kept p n x (over p x) P h (le-trans over-low up-low)
+
+  over-root : rootOf (parentIn p) (over p x) ≡ rootOf (parentIn p) x
+  over-root = root-parent (parentIn p) n (P .low) (parentIn p x) (omega (arith, up-low)) ∙ root-parent (parentIn p) n (P .low) x h
+
+  half-root : (r : ℕ) → r < n → rootOf (parentIn (half p x)) r ≡ rootOf (parentIn p) r
+  half-root = root-unique (parentIn (half p x)) n (half-kept .low) (rootOf (parentIn p)) (λ r m. step r m (ℕ-discrete r x)) (λ r m. stop r m (ℕ-discrete r x))
+    where
+      step : (r : ℕ) → r < n → Dec (r ≡ x) → rootOf (parentIn p) (parentIn (half p x) r) ≡ rootOf (parentIn p) r
+      step r m (yes e) = rw (e, put-same p x (over p x) room) over-root
+      step r m (no e) = rw (put-other p x (over p x) room r e) (root-parent (parentIn p) n (P .low) r m)
+
+      stop : (r : ℕ) → r < n → Dec (r ≡ x) → parentIn (half p x) r ≡ r → rootOf (parentIn p) r ≡ r
+      stop r m (yes e) g =
+          let self : over p x ≡ x = sym (put-same p x (over p x) room) ∙ ap (parentIn (half p x)) (sym e) ∙ g ∙ e in
+          rw e (root-stays (parentIn p) x (omega (arith, up-low, over-low)))
+      stop r m (no e) g = root-stays (parentIn p) r (sym (put-other p x (over p x) room r e) ∙ g)
+
+-- one turn of find, from run `at`
+pub found-half : (p₀ p : List ℕ) (n x at : ℕ) → Parents p₀ n → at < n → Found p₀ p n x (rootOf (parentIn p) at) → Found p₀ (half p at) n x (rootOf (parentIn (half p at)) (over p at))
+found-half p₀ p n x at P₀ h I = record {
+  kept = kept-trans p₀ p _ n (I .kept) (half-kept p n at P h);
+  same = λ r m. half-root p n at P h r m ∙ I .same r m;
+  found = half-root p n at P h _ (omega (arith, up-low p n at P h, over-low p n at P h)) ∙ over-root p n at P h ∙ I .found;
+}
+  where
+    P : Parents p n
+    P = kept-parents p₀ p n P₀ (I .kept)
+
+merge-min : (x y : ℕ) → merge x y (min x y) ≡ min x y
+unfolding Merged
+merge-min x y = go (merged x y (min x y))
+  where
+    go : Merged x y (min x y) → merge x y (min x y) ≡ min x y
+    go (inl h) = h .1
+    go (inr h) = h .1
+
+-- of two roots x and y the smaller becomes the larger one's parent
+module _ (p : List ℕ) (n x y : ℕ) (P : Parents p n) (hx : x < n) (hy : y < n) (at-x : parentIn p x ≡ x) (at-y : parentIn p y ≡ y) where
+  abbrev lo : ℕ
+  lo = min x y
+
+  abbrev hi : ℕ
+  hi = max x y
+
+  either : (z : ℕ) → Dec (z ≡ x) → (z ≢ x → z ≡ y) → rootOf (parentIn p) z ≡ z
+  either z (yes e) f = rw e (root-stays (parentIn p) x at-x)
+  either z (no e) f = rw (f e) (root-stays (parentIn p) y at-y)
+
+  at-lo : rootOf (parentIn p) lo ≡ lo
+  at-lo = either lo (ℕ-discrete lo x) (λ e. omega arith)
+
+  at-hi : rootOf (parentIn p) hi ≡ hi
+  at-hi = either hi (ℕ-discrete hi x) (λ e. omega arith)
+
+  hi-room : stride * suc hi ≤ length p
+  hi-room = omega (arith, P .room)
+
+  linked-kept : Kept p (set p (parentAt (max x y)) (min x y)) n
+  linked-kept = put-kept p n hi lo P (omega arith) (omega arith)
+
+  linked-root : (r : ℕ) → r < n → rootOf (parentIn (set p (parentAt (max x y)) (min x y))) r ≡ merge x y (rootOf (parentIn p) r)
+  linked-root = root-unique (parentIn q) n (linked-kept .low) (λ r. merge x y (rootOf (parentIn p) r)) (λ r m. step r m (ℕ-discrete r hi)) (λ r m. stop r (ℕ-discrete r hi))
+    where
+      q : List ℕ
+      q = set p (parentAt hi) lo
+
+      step : (r : ℕ) → r < n → Dec (r ≡ hi) → merge x y (rootOf (parentIn p) (parentIn q r)) ≡ merge x y (rootOf (parentIn p) r)
+      step r m (yes e) = rw (e, put-same p hi lo hi-room, at-lo, at-hi) (merge-min x y ∙ sym (merge-hit x y hi refl))
+      step r m (no e) = rw (put-other p hi lo hi-room r e, root-parent (parentIn p) n (P .low) r m)
+
+      stop : (r : ℕ) → Dec (r ≡ hi) → parentIn q r ≡ r → merge x y (rootOf (parentIn p) r) ≡ r
+      stop r (yes e) g = merge-hit x y (rootOf (parentIn p) r) (ap (rootOf (parentIn p)) e ∙ at-hi) ∙ sym (put-same p hi lo hi-room) ∙ ap (parentIn q) (sym e) ∙ g
+      stop r (no e) g =
+          let self = root-stays (parentIn p) r (sym (put-other p hi lo hi-room r e) ∙ g) in
+          merge-miss x y (rootOf (parentIn p) r) (λ k. e (sym self ∙ k)) ∙ self
+
+-- what is known after the finds of a and of b, one after the other
+pub record Both (p q : List ℕ) (n a b ra rb : ℕ) : Type 0 where
+  pub kept : Kept p q n
+  pub same : (r : ℕ) → r < n → rootOf (parentIn q) r ≡ rootOf (parentIn p) r
+  pub is-a : ra ≡ rootOf (parentIn p) a
+  pub is-b : rb ≡ rootOf (parentIn p) b
+  pub low-a : ra ≤ a
+  pub low-b : rb ≤ b
+  pub self-a : parentIn q ra ≡ ra
+  pub self-b : parentIn q rb ≡ rb
+
+module _ (p o q : List ℕ) (n a b ra rb : ℕ) (P : Parents p n) (ha : a < n) (hb : b < n) (A : Found p o n a ra) (B : Found o q n b rb) where
+  pub both : Both p q n a b ra rb
+  both = record {
+    kept = K;
+    same = same;
+    is-a = A .found;
+    is-b = is-b;
+    low-a = omega (arith, A .found, root-le (parentIn p) n (P .low) a ha);
+    low-b = omega (arith, is-b, root-le (parentIn p) n (P .low) b hb);
+    self-a = self a ha ra (same a ha ∙ sym (A .found));
+    self-b = self b hb rb (B .same b hb ∙ sym (B .found));
+  }
+    where
+      K : Kept p q n
+      K = kept-trans p o q n (A .kept) (B .kept)
+
+      same : (r : ℕ) → r < n → rootOf (parentIn q) r ≡ rootOf (parentIn p) r
+      same r h = B .same r h ∙ A .same r h
+
+      is-b : rb ≡ rootOf (parentIn p) b
+      is-b = B .found ∙ A .same b hb
+
+      self : (x : ℕ) → x < n → (s : ℕ) → rootOf (parentIn q) x ≡ s → parentIn q s ≡ s
+      self x h s e = rw e at (root-root (parentIn q) n (K .low) x h)
+
+  -- the smaller root is stored as the larger one's parent
+  pub both-joined : Joined p (set q (parentAt (max ra rb)) (min ra rb)) n a b (not (eqb ra rb))
+  both-joined = record {
+    kept = kept-trans p q _ n (C .kept) (linked-kept q n ra rb Q in-a in-b (C .self-a) (C .self-b));
+    told = rw (C .is-a, C .is-b);
+    grouped = λ r m. linked-root q n ra rb Q in-a in-b (C .self-a) (C .self-b) r m ∙ right r m;
+  }
+    where
+      C : Both p q n a b ra rb
+      C = both
+
+      Q : Parents q n
+      Q = kept-parents p q n P (C .kept)
+
+      in-a : ra < n
+      in-a = omega (arith, C .low-a)
+
+      in-b : rb < n
+      in-b = omega (arith, C .low-b)
+
+      right : (r : ℕ) → r < n → merge ra rb (rootOf (parentIn q) r) ≡ rep (record { from = a; to = b } ∷ grouping (parentIn p) n) r
+      right r m = unfold rep in rw (grouping-rep (parentIn p) n (P .low) a ha, grouping-rep (parentIn p) n (P .low) b hb, grouping-rep (parentIn p) n (P .low) r m, C .same r m, C .is-a, C .is-b)
+
+-- ---- neither changes how many words there are
+
+pub finds-long : (p q : List ℕ) (x s : ℕ) → Parents p (suc x) → Finds p q x s → length q ≡ length p
+finds-long p q x s P F = F (suc x) P (le-refl (suc x)) .kept .long
+
+pub unites-long : (p q : List ℕ) (a b : ℕ) (t : Bool) → Parents p (suc (max a b)) → Unites p q a b t → length q ≡ length p
+unites-long p q a b t P U = U (suc (max a b)) P (omega arith) (omega arith) .kept .long

@@ -1,0 +1,88 @@
+// Parents in lent words: find and union over a slice of run words, and the struct `Uf` that holds the slice. A slice begins with the
+// first run's words. No parent is ever above its run, so the root of a group is its first run. Only parents are written.
+//
+//     reset    makes runs their own parents
+//     find     the root of a run; every root stands
+//     union    makes one group of two runs' groups; true where they were two
+//     Uf       find and union over a held slice
+//     unite    union through a `Uf`, for callers that have the slice
+ghost use mathlib.Core.Path.{_≡_};
+ghost use Prim.Native.Nat.{suc, max, _≤_, _*_, _^_};
+ghost use denote.Ref.{at-last};
+ghost use lib.ListN.{length};
+ghost use Rattle.frame.specs.Memory.{stride};
+ghost use Rattle.forest.specs.Unions.{Parents, Finds, Unites, Reset};
+
+// Makes each run from `a` to before `b` its own parent.
+pub fn reset(p: &mut [u32], a: usize, b: usize)
+    requires { ⌜ (stride * b ≤ length (now p)) × (b ≤ 2 ^ 32) ⌝ }
+    ensures { λ _. ⌜ Reset (now (p .entry)) (now (p .exit)) a b ⌝ }
+{
+    let mut r = a;
+    while r < b {
+        p[frame::STRIDE * r + frame::PARENT] = r as u32;
+        r += 1;
+    }
+}
+
+// The root of run `x`. Each second run on the way gets its parent's parent for a parent, so that the next way is shorter.
+pub fn find(p: &mut [u32], x: usize) -> usize
+    requires { ⌜ Parents (now p) (suc x) ⌝ }
+    ensures { λ s. ⌜ Finds (now (p .entry)) (now (p .exit)) x s ⌝ }
+{
+    let mut at = x;
+    loop {
+        let up = p[frame::STRIDE * at + frame::PARENT] as usize;
+        if up == at {
+            return at;
+        }
+        let over = p[frame::STRIDE * up + frame::PARENT];
+        p[frame::STRIDE * at + frame::PARENT] = over;
+        at = over as usize;
+    }
+}
+
+// Makes one group of the groups of runs `a` and `b`; true where they were two. The smaller root stays a root: where the two roots are
+// one, the store changes nothing, which is faster than a branch.
+pub fn union(p: &mut [u32], a: usize, b: usize) -> bool
+    requires { ⌜ Parents (now p) (suc (max a b)) ⌝ }
+    ensures { λ t. ⌜ Unites (now (p .entry)) (now (p .exit)) a b t ⌝ }
+{
+    let ra = find(p, a);
+    let rb = find(p, b);
+    let lo = if ra < rb { ra } else { rb };
+    let hi = if ra < rb { rb } else { ra };
+    p[frame::STRIDE * hi + frame::PARENT] = lo as u32;
+    ra != rb
+}
+
+// The run words, held.
+pub struct Uf<'a> {
+    pub p: &'a mut [u32],
+}
+
+// Both contracts say besides that the struct still holds the same slice.
+impl<'a> Uf<'a> {
+    pub fn find(&mut self, x: usize) -> usize
+        requires { ⌜ Parents (now (now self .p)) (suc x) ⌝ }
+        ensures { λ s. ⌜ Finds (now (now (self .entry) .p)) (now (now (self .exit) .p)) x s × (now (self .exit) .p ≡ at-last (now (self .entry) .p) (now (now (self .exit) .p))) ⌝ }
+    {
+        find(&mut *self.p, x)
+    }
+
+    pub fn union(&mut self, a: usize, b: usize) -> bool
+        requires { ⌜ Parents (now (now self .p)) (suc (max a b)) ⌝ }
+        ensures { λ t. ⌜ Unites (now (now (self .entry) .p)) (now (now (self .exit) .p)) a b t × (now (self .exit) .p ≡ at-last (now (self .entry) .p) (now (now (self .exit) .p))) ⌝ }
+    {
+        union(&mut *self.p, a, b)
+    }
+}
+
+// Makes a `Uf`, unites runs `a` and `b` through it, and hands the slice back.
+pub fn unite(p: &mut [u32], a: usize, b: usize) -> bool
+    requires { ⌜ Parents (now p) (suc (max a b)) ⌝ }
+    ensures { λ t. ⌜ Unites (now (p .entry)) (now (p .exit)) a b t ⌝ }
+{
+    let mut u = Uf { p: p };
+    u.union(a, b)
+}
