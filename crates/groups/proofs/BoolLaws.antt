@@ -33,3 +33,9 @@ pub or₃-false : (a b c : Bool) → (a || (b || c)) ≡ false → (a ≡ false)
 or₃-false false false c h = (refl, refl, h)
 or₃-false false true c h = absurd (true≢false h)
 or₃-false true b c h = absurd (true≢false h)
+
+-- two tests are one where each is true if the other is
+pub bool-same : (a b : Bool) → (a ≡ true → b ≡ true) → (b ≡ true → a ≡ true) → a ≡ b
+bool-same true b f g = sym (f refl)
+bool-same false true f g = g refl
+bool-same false false f g = refl

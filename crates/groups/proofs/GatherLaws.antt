@@ -10,6 +10,7 @@ use native.Mathlib.Omega.{arith}
 use borrow.Author.Tests.{eqb-true, eqb-false}
 use lib.Dec.{eqb}
 use Rattle.groups.specs.Groups.{Edge, gather, pairs}
+use Rattle.groups.proofs.RepLaws.{Ends, ends-all}
 
 module _ {A : Type 0} (f : ℕ → List A) where
   pub gather-split : (a n m : ℕ) → gather f a (n + m) ≡ gather f a n ++ gather f (a + n) m
@@ -100,3 +101,27 @@ pub pairs-same : (t u : ℕ → ℕ → Bool) (a n b m : ℕ) → ((i j : ℕ) �
 unfolding pairs
 pairs-same t u a n b m h =
     gather-same _ _ a n (λ i l g. gather-same _ _ b m (λ j p q. ap (λ (x : Bool). cond x (record { from = i; to = j } ∷ []) []) (h i j l g p q)))
+
+-- ---- none, some rows and then others, ends below a bound
+
+pub gather-none : {A : Type 0} (f : ℕ → List A) (a n : ℕ) → ((k : ℕ) → a ≤ k → k < a + n → f k ≡ []) → gather f a n ≡ []
+unfolding gather
+gather-none f a zero h = refl
+gather-none {A} f a (suc n) h = ap₂ (λ (x : List A) (y : List A). x ++ y) (h a (le-refl a) (omega arith)) (gather-none f (suc a) n (λ k l u. h k (omega arith) (omega arith)))
+
+module _ (t : ℕ → ℕ → Bool) where
+  pub pairs-none : (a n b m : ℕ) → ((i j : ℕ) → a ≤ i → i < a + n → b ≤ j → j < b + m → t i j ≡ false) → pairs t a n b m ≡ []
+  unfolding pairs
+  pairs-none a n b m h = gather-none _ a n (λ i p q. gather-none _ b m (λ j r s. ap (λ (x : Bool). cond x (record { from = i; to = j } ∷ []) []) (h i j p q r s)))
+
+  pub pairs-rows : (a n k b m : ℕ) → pairs t a (n + k) b m ≡ pairs t a n b m ++ pairs t (a + n) k b m
+  unfolding pairs
+  pairs-rows a n k b m = gather-split _ a n k
+
+  -- one row, in two parts
+  pub pairs-parts : (i b m k : ℕ) → pairs t i 1 b (m + k) ≡ pairs t i 1 b m ++ pairs t i 1 (b + m) k
+  unfolding pairs gather
+  pairs-parts i b m k = simp append-nil (gather-split _ b m k)
+
+  pub pairs-ends : (a n b m w : ℕ) → a + n ≤ w → b + m ≤ w → Ends (λ r. r < w) (pairs t a n b m)
+  pairs-ends a n b m w h k = ends-all (λ r. r < w) (pairs t a n b m) (λ e i. let p = pairs-from t a n b m e i in (omega (arith, p .from-high), omega (arith, p .to-high)))

@@ -1,9 +1,9 @@
 pub mod Answers
 pub mod BoolLaws
 pub mod CountLaws
-pub mod GatherLaws
 pub mod ChainLaws
 pub mod RepLaws
+pub mod GatherLaws
 pub mod GroupLaws
 pub mod VisitLaws
 pub mod NumberLaws

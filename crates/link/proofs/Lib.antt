@@ -1,0 +1,14 @@
+pub mod SignedLaws
+pub mod ReachedLaws
+pub mod SweepLaws
+pub mod TurnLaws
+pub mod ShiftLaws
+pub mod SideLaws
+pub mod StepLaws
+pub mod OffsetLaws
+pub mod CoordinateLaws
+pub mod NbrLineLaws
+pub mod StepsLaws
+pub mod LinkedLaws
+pub mod TouchByLaws
+pub mod LineTouchLaws

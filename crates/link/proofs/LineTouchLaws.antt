@@ -1,0 +1,137 @@
+-- The touches of a line, one leading offset after another.
+-- Assumes nothing.
+use mathlib.Core.Path.{_≡_, refl, sym, ap, _∙_, subst}
+use mathlib.Core.Bool.{Bool, true, false, cond, _&&_}
+use mathlib.Core.List.{List, [], _++_, append-nil}
+use Prim.Native.Nat.{ℕ, suc, _+_, _-_, _*_, _/_, _^_, _≤_, _<_}
+use native.Mathlib.Nat.{le-refl, zero-add}
+use native.Mathlib.Numerals.{add-one}
+use native.Mathlib.Omega.{arith}
+use borrow.Author.Tests.{le-ltb}
+use lib.ListN.{length, drop}
+use Rattle.groups.specs.Groups.{Edge, gather, pairs}
+use Rattle.groups.proofs.RepLaws.{Ends, mem-ends, ends-all}
+use Rattle.groups.proofs.GatherLaws.{gather-split, gather-snoc, gather-from, gather-none, pairs-ends}
+use Rattle.frame.specs.Shape.{size}
+use Rattle.frame.specs.Structure.{offset, backward, on}
+use Rattle.frame.specs.Runs.{Run}
+use Rattle.frame.specs.Words.{lineStart, storedRun}
+use Rattle.frame.specs.Touches.{used, hasNbr, nbrLine, reaches, touchesBy, touchesOf}
+use Rattle.frame.proofs.StructureLaws.{backward-below}
+use Rattle.frame.proofs.TouchLaws.{nbr-earlier}
+use Rattle.forest.specs.Unions.{parentIn}
+use Rattle.forest.proofs.ForestLaws.{roots-others}
+use Rattle.forest.proofs.UnitedLaws.{united-groups}
+use Rattle.link.specs.Lines.{leadingOf, LineReady, Linked, touchesIn, runsTo}
+use Rattle.link.proofs.LinkedLaws.{part-ready, starts-rise, linked-start, linked-runs, linked-then}
+use Rattle.link.proofs.TouchByLaws.{leading-length, leading-size}
+
+module _ (n : ℕ) (dims : List ℕ) (L : ℕ) (structure ws : List ℕ) (ℓ : ℕ) (R : LineReady n dims L structure ws ℓ) (three : length dims ≡ 3) where
+  abbrev ds : List ℕ
+  ds = leadingOf n dims
+
+  abbrev N : ℕ
+  N = runsTo ws ℓ
+
+  -- the touches by code k, and by the codes before k
+  abbrev by : ℕ → List Edge
+  by k = touchesBy (leadingOf n dims) structure (lineStart ws) (storedRun L ws) ℓ k
+
+  below : ℓ < size ds
+  below = rw (leading-size n dims L (R .leading) three) (R .lines .within)
+
+  -- the pairs of line ℓ and line m, by that code
+  abbrev with-line : (ℕ → ℕ) → (ℕ → Run) → ℕ → ℕ → List Edge
+  with-line S Q k m = pairs (λ r s. reaches (on structure (3 * k)) (on structure (3 * k + 1)) (on structure (3 * k + 2)) (Q s) (Q r)) (S ℓ) (S (suc ℓ) - S ℓ) (S m) (S (suc m) - S m)
+
+  -- the touches by one code are these, or none
+  by-cases : (P : List Edge → Type 0) (S : ℕ → ℕ) (Q : ℕ → Run) (k : ℕ) → P []
+      → ((m : ℕ) → m < ℓ → P (with-line S Q k m))
+      → P (touchesBy (leadingOf n dims) structure S Q ℓ k)
+  unfolding touchesBy
+  by-cases P S Q k none some = go (used structure (length ds) k) refl (hasNbr ds (offset (length ds) k) ℓ) refl
+    where
+      m : ℕ
+      m = nbrLine ds (offset (length ds) k) ℓ
+
+      go : (u : Bool) → used structure (length ds) k ≡ u → (t : Bool) → hasNbr ds (offset (length ds) k) ℓ ≡ t → P (cond (used structure (length ds) k && hasNbr ds (offset (length ds) k) ℓ) (with-line S Q k m) [])
+      go false eu t et = rw eu none
+      go true eu false et = rw (eu, et) none
+      go true eu true et = rw (eu, et) (some m (nbr-earlier ds structure ℓ k below eu et))
+
+  by-ends : (k : ℕ) → Ends (λ r. r < N) (by k)
+  by-ends k =
+      by-cases (Ends (λ r. r < N)) (lineStart ws) (storedRun L ws) k tt
+      (λ m h.
+      let a = starts-rise L ws ℓ (R .lines) ℓ (suc ℓ) (omega arith) (le-refl (suc ℓ)) in
+      let b = starts-rise L ws ℓ (R .lines) m (suc m) (omega arith) (omega arith) in
+      let c = starts-rise L ws ℓ (R .lines) (suc m) (suc ℓ) (omega arith) (le-refl (suc ℓ)) in
+      pairs-ends _ _ _ _ _ N (omega arith) (omega arith))
+
+  upto-ends : (k : ℕ) → Ends (λ r. r < N) (gather by 0 k)
+  upto-ends k = ends-all (λ r. r < N) (gather by 0 k) (λ e i. let f = gather-from by 0 k e i in mem-ends (λ r. r < N) (by (f .at)) (by-ends (f .at)) e (f .mem))
+
+  same-starts : (S Z : ℕ → ℕ) (Q : ℕ → Run) (k : ℕ) → ((m : ℕ) → m ≤ suc ℓ → S m ≡ Z m) → touchesBy (leadingOf n dims) structure S Q ℓ k ≡ touchesBy (leadingOf n dims) structure Z Q ℓ k
+  unfolding touchesBy
+  same-starts S Z Q k same = go (used structure (length ds) k) refl (hasNbr ds (offset (length ds) k) ℓ) refl
+    where
+      m : ℕ
+      m = nbrLine ds (offset (length ds) k) ℓ
+
+      go : (u : Bool) → used structure (length ds) k ≡ u → (t : Bool) → hasNbr ds (offset (length ds) k) ℓ ≡ t
+          → cond (used structure (length ds) k && hasNbr ds (offset (length ds) k) ℓ) (with-line S Q k m) [] ≡ cond (used structure (length ds) k && hasNbr ds (offset (length ds) k) ℓ) (with-line Z Q k m) []
+      go false eu t et = rw eu
+      go true eu false et = rw (eu, et)
+      go true eu true et =
+          let h : m < ℓ = nbr-earlier ds structure ℓ k below eu et in
+          rw (eu, et) (rw (same ℓ (omega arith), same (suc ℓ) (le-refl (suc ℓ)), same m (omega arith), same (suc m) (omega arith)))
+
+  -- ---- none, where the line has no run
+
+  pub no-touches : lineStart ws ℓ ≡ lineStart ws (suc ℓ) → touchesIn n dims L structure ws ℓ ≡ []
+  unfolding touchesOf
+  no-touches e = gather-none by 0 (3 ^ length ds) (λ k l u. by-cases (λ es. es ≡ []) (lineStart ws) (storedRun L ws) k refl (λ m h. let z : lineStart ws (suc ℓ) - lineStart ws ℓ ≡ 0 = omega arith in rw z (unfold pairs gather in refl)))
+
+  -- ---- by one code more
+
+  module _ (now : List ℕ) (k t : ℕ) (E : Linked L ws now (runsTo ws ℓ) (gather (touchesBy (leadingOf n dims) structure (lineStart ws) (storedRun L ws) ℓ) 0 k) t) where
+    same-by : touchesBy (leadingOf n dims) structure (lineStart now) (storedRun L now) ℓ k ≡ by k
+    same-by = ap (λ (q : ℕ → Run). touchesBy ds structure (lineStart now) q ℓ k) (linked-runs L ws now N (gather by 0 k) t E) ∙ same-starts (lineStart now) (lineStart ws) (storedRun L ws) k (λ m h. linked-start L ws now N (gather by 0 k) t E m (let w = R .lines .within in omega arith))
+
+    pub touches-more : (vs : List ℕ) (u : ℕ) → Linked L now vs (runsTo now ℓ) (touchesBy (leadingOf n dims) structure (lineStart now) (storedRun L now) ℓ k) u → Linked L ws vs (runsTo ws ℓ) (gather (touchesBy (leadingOf n dims) structure (lineStart ws) (storedRun L ws) ℓ) 0 (k + 1)) (t + u)
+    touches-more vs u F =
+        subst (λ (es : List Edge). Linked L ws vs N es (t + u)) (sym more)
+        (linked-then L ws ℓ (R .lines) now (gather by 0 k) t E (upto-ends k) vs (by k) u (subst (λ (es : List Edge). Linked L now vs (runsTo now ℓ) es u) same-by F))
+      where
+        more : gather by 0 (k + 1) ≡ gather by 0 k ++ by k
+        more = ap (gather by 0) (add-one k) ∙ gather-snoc by 0 k ∙ ap (λ (x : ℕ). gather by 0 k ++ by x) (zero-add k)
+
+    -- how many joins there can be
+    pub joins-most : t ≤ runsTo ws ℓ
+    joins-most =
+        let a = united-groups (drop (L + 1) ws) N (part-ready L ws ℓ (R .lines)) (drop (L + 1) now) (gather by 0 k) t (upto-ends k) (E .runs) in
+        let b = roots-others (parentIn (drop (L + 1) ws)) N in
+        omega arith
+
+  -- ---- all of them: only the codes below the middle are backward
+
+  unused : (k : ℕ) → 3 ^ n / 2 ≤ k → k < 3 ^ n → used structure (length ds) k ≡ false
+  unfolding used
+  unused k l u =
+      let e : backward (offset (length ds) k) ≡ false = ap (λ (x : ℕ). backward (offset x k)) (leading-length n dims L (R .leading) three) ∙ backward-below n k u ∙ le-ltb k (3 ^ n / 2) l in
+      rw e
+
+  forward : (k : ℕ) → 3 ^ n / 2 ≤ k → k < 3 ^ n → by k ≡ []
+  unfolding touchesBy
+  forward k l u = rw (unused k l u)
+
+  pub touches-all : gather (touchesBy (leadingOf n dims) structure (lineStart ws) (storedRun L ws) ℓ) 0 (3 ^ n / 2) ≡ touchesIn n dims L structure ws ℓ
+  unfolding touchesOf
+  touches-all =
+      let e : 3 ^ n ≡ 3 ^ n / 2 + (3 ^ n - 3 ^ n / 2) = omega arith in
+      sym
+      (ap (λ (x : ℕ). gather by 0 (3 ^ x)) (leading-length n dims L (R .leading) three)
+      ∙ ap (gather by 0) e
+      ∙ gather-split by 0 (3 ^ n / 2) (3 ^ n - 3 ^ n / 2)
+      ∙ ap (λ (l : List Edge). gather by 0 (3 ^ n / 2) ++ l) (gather-none by (0 + 3 ^ n / 2) (3 ^ n - 3 ^ n / 2) (λ k l u. forward k (omega arith) (omega arith)))
+      ∙ append-nil (gather by 0 (3 ^ n / 2)))

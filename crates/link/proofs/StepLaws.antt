@@ -1,0 +1,98 @@
+-- A coordinate moved by an offset, as i64 has it and as natural numbers do.
+-- Assumes nothing.
+use mathlib.Core.Path.{_≡_, sym, ap, ap₂, _∙_, subst}
+use mathlib.Core.Bool.{Bool, false, _&&_}
+use mathlib.Core.List.{[], _∷_}
+use Prim.Native.Nat.{ℕ, zero, suc, _+_, _-_, _≤_, _<_}
+use native.Mathlib.Omega.{arith}
+use borrow.Author.Tests.{lt-ltb, le-ltb, le-leb}
+use lib.Dec.{ltb, leb, T}
+use lib.IntN.{ℤ, pos, negsuc, natAbs, _+ℤ_}
+use lib.Signed.{ltZ, leZ, nonNeg}
+use mir.Syntax.{w64}
+use mir.Val.{SFits, Fits, ofZ, toZ}
+use mir.Facts.{toZ-ofZ}
+use Rattle.link.specs.Offsets.{digit, Step}
+use Rattle.link.proofs.SignedLaws.{sub-cases, small, near-fits, lt-left, off-back, nat-move, ge-zero}
+
+-- a signed number in a local: its bits, read back
+abbrev pub held : ℤ → ℤ
+held z = toZ w64 (ofZ w64 z)
+
+coord-fits : (c : ℤ) → c ≡ pos (natAbs c) → natAbs c < 4294967296 → SFits w64 c
+coord-fits c e h = subst (SFits w64) (sym e) (record { sfits = omega arith })
+
+pub coord-back : (c : ℤ) → c ≡ pos (natAbs c) → natAbs c < 4294967296 → held c ≡ c
+coord-back c e h = toZ-ofZ (coord-fits c e h)
+
+-- ---- a coordinate c and an offset o
+
+module _ (c o : ℤ) (is-c : c ≡ pos (natAbs c)) (low : natAbs c < 4294967296) (is-o : digit o ≤ 2) where
+  abbrev x : ℕ
+  x = natAbs c
+
+  sum-is : held c +ℤ held o ≡ pos x +ℤ o
+  sum-is = ap₂ (λ (a : ℤ) (b : ℤ). a +ℤ b) (coord-back c is-c low ∙ is-c) (off-back o is-o)
+
+  pub move-fits : SFits w64 (held c +ℤ held o)
+  move-fits = subst (SFits w64) (sym sum-is) (near-fits x o low is-o)
+
+  pub move-is : held (held c +ℤ held o) ≡ pos x +ℤ o
+  move-is = toZ-ofZ move-fits ∙ sum-is
+
+  -- it stays a coordinate, as a natural number
+  module _ (up : 0 < natAbs c + digit o) where
+    not-below : ltZ (pos x +ℤ o) (pos 0) ≡ false
+    not-below = lt-left x 0 o is-o ∙ le-ltb (x + digit o) (0 + 1) (omega arith)
+
+    pub move-nat : natAbs (held (held c +ℤ held o)) ≡ x + digit o - 1
+    move-nat = ap natAbs move-is ∙ nat-move x o is-o not-below
+
+    pub move-cast : T (nonNeg (held (held c +ℤ held o))) × Fits w64 (natAbs (held (held c +ℤ held o)))
+    move-cast = (subst (λ (z : ℤ). T (nonNeg z)) (sym move-is) (ge-zero (pos x +ℤ o) not-below), record { fits = rw move-nat (omega arith) })
+
+-- ---- the test
+
+within : ℤ → ℕ → Bool
+within z d = leZ (pos 0) z && ltZ z (pos d)
+
+ltb-leb : (a d b : ℕ) → suc a ≡ b → ltb a d ≡ leb b d
+ltb-leb a d b e = ap (λ (x : ℕ). leb x d) e
+
+within-moves : (n d : ℕ) (o : ℤ) → digit o ≤ 2 → within (pos n +ℤ o) d ≡ ltb 0 (n + digit o) && leb (n + digit o) d
+unfolding within
+within-moves n d (pos b) k = ap (λ (t : Bool). t && ltb (n + b) d) (le-leb 0 (n + b) (omega arith)) ∙ ltb-leb (n + b) d (n + suc b) (omega arith) ∙ sym (ap (λ (t : Bool). t && leb (n + suc b) d) (lt-ltb 0 (n + suc b) (omega arith)))
+within-moves n d (negsuc zero) k =
+    sub-cases (λ z. leZ (pos 0) z && ltZ z (pos d) ≡ ltb 0 (n + 0) && leb (n + 0) d) n 1
+    (λ q. sym (ap (λ (t : Bool). t && leb (n + 0) d) (le-ltb 0 (n + 0) (omega arith))))
+    (λ q. ap (λ (t : Bool). t && ltb (n - 1) d) (le-leb 0 (n - 1) (omega arith)) ∙ ltb-leb (n - 1) d (n + 0) (omega arith) ∙ sym (ap (λ (t : Bool). t && leb (n + 0) d) (lt-ltb 0 (n + 0) (omega arith))))
+within-moves n d (negsuc (suc b)) k = absurd (omega arith)
+
+module _ (c o : ℤ) (d : ℕ) (S : Step c o d) where
+  low : natAbs c < 4294967296
+  low = omega (arith, S .below, S .small)
+
+  pub step-fits : SFits w64 (held c +ℤ held o)
+  step-fits = move-fits c o (S .coordinate) low (S .offset)
+
+  pub step-inside : leZ (pos 0) (held (held c +ℤ held o)) && ltZ (held (held c +ℤ held o)) (toZ w64 d) ≡ ltb 0 (natAbs c + digit o) && leb (natAbs c + digit o) d
+  step-inside =
+      ap₂ (λ (z : ℤ) (y : ℤ). leZ (pos 0) z && ltZ z y) (move-is c o (S .coordinate) low (S .offset)) (small d (omega (arith, S .small)))
+      ∙ (unfold within in (within-moves (natAbs c) d o (S .offset)))
+
+  -- read out of an array, it is the same
+  pub step-back : Step (held c) (held o) d
+  step-back = rw (coord-back c (S .coordinate) low, off-back o (S .offset)) S
+
+  pub held-inside : ltb 0 (natAbs (held c) + digit (held o)) && leb (natAbs (held c) + digit (held o)) d ≡ ltb 0 (natAbs c + digit o) && leb (natAbs c + digit o) d
+  held-inside = rw (coord-back c (S .coordinate) low, off-back o (S .offset))
+
+  pub held-moved : natAbs (held c) + digit (held o) - 1 ≡ natAbs c + digit o - 1
+  held-moved = rw (coord-back c (S .coordinate) low, off-back o (S .offset))
+
+  pub step-move : (up : 0 < natAbs c + digit o) → (held c ≡ pos (natAbs (held c))) × (natAbs (held c) < 4294967296) × (digit (held o) ≤ 2) × (0 < natAbs (held c) + digit (held o))
+  step-move up = rw (coord-back c (S .coordinate) low, off-back o (S .offset)) (S .coordinate, low, S .offset, up)
+
+-- three parts of an offset, in an array
+pub offset-held : (a b c : ℤ) {x y z : ℕ} → digit a ≡ x → digit b ≡ y → digit c ≡ z → (x ≤ 2) × (y ≤ 2) × (z ≤ 2) → digit (held a) ∷ digit (held b) ∷ digit (held c) ∷ [] ≡ x ∷ y ∷ z ∷ []
+offset-held a b c p q r low = rw (off-back a (rw p (low .0)), off-back b (rw q (low .1)), off-back c (rw r (low .2)), p, q, r)

@@ -1,0 +1,18 @@
+use Rattle.link.proofs.SignedLaws.{part-fits, part-digit}
+use borrow.Author.Needs.{needs}
+use Rattle.link.proofs.part.Statement.{statement}
+use Rattle.link.proofs.part.Tie as tie
+use Rattle.link.proofs.part.Reads as reads
+use Rattle.link.proofs.part.Lts as lts
+
+cast-result : tie.Need-cast-result
+cast-result c = search needs
+
+sub-result : tie.Need-sub-result
+sub-result c = part-fits (c .args .t) (c .pre)
+
+returns : tie.Need-returns
+returns c = part-digit (c .args .t) (c .pre)
+
+pub part-spec : {M : Type 1} → statement M
+part-spec = tie.close (tie.spec cast-result sub-result returns)
