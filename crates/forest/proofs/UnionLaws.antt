@@ -2,16 +2,16 @@
 -- Assumes nothing.
 use mathlib.Core.Path.{_≡_, refl, sym, ap, _∙_}
 use mathlib.Core.Logic.{_≢_, inl, inr}
-use mathlib.Core.Bool.{Bool, not}
+use mathlib.Core.Bool.{Bool, true, false, not}
 use mathlib.Core.List.{List, _∷_}
 use Prim.Native.Nat.{ℕ, suc, _*_, _≤_, _<_, min, max}
 use native.Mathlib.Decide.{ℕ-discrete}
 use native.Mathlib.Nat.{le-refl, le-trans}
 use native.Mathlib.Omega.{arith}
-use lib.Dec.{eqb}
+use borrow.Author.Tests.{eq-eqb, ne-eqb}
 use lib.ListN.{length, set}
 use Rattle.groups.specs.Groups.{merge, rep}
-use Rattle.groups.proofs.RepLaws.{Merged, merged, merge-hit, merge-miss}
+use Rattle.groups.proofs.RepLaws.{Merged, merged, merge-hit, merge-miss, rep-idle}
 use Rattle.frame.specs.Memory.{stride}
 use Rattle.frame.specs.Words.{parentAt}
 use Rattle.forest.specs.Forest.{rootOf, grouping}
@@ -150,11 +150,25 @@ module _ (p o q : List ℕ) (n a b ra rb : ℕ) (P : Parents p n) (ha : a < n) (
       self : (x : ℕ) → x < n → (s : ℕ) → rootOf (parentIn q) x ≡ s → parentIn q s ≡ s
       self x h s e = rw e at (root-root (parentIn q) n (K .low) x h)
 
-  -- the smaller root is stored as the larger one's parent
-  pub both-joined : Joined p (set q (parentAt (max ra rb)) (min ra rb)) n a b (not (eqb ra rb))
-  both-joined = record {
+  -- where the roots are one, nothing is stored
+  pub both-idle : ra ≡ rb → Joined p q n a b false
+  both-idle e = record {
+    kept = both .kept;
+    told = sym (ap not (eq-eqb _ _ one));
+    grouped = λ r m. both .same r m ∙ sym (rep-idle (record { from = a; to = b }) (grouping (parentIn p) n) (at a ha ∙ one ∙ sym (at b hb)) r ∙ at r m);
+  }
+    where
+      one : rootOf (parentIn p) a ≡ rootOf (parentIn p) b
+      one = sym (both .is-a) ∙ e ∙ both .is-b
+
+      at : (r : ℕ) → r < n → rep (grouping (parentIn p) n) r ≡ rootOf (parentIn p) r
+      at = grouping-rep (parentIn p) n (P .low)
+
+  -- else the smaller root is stored as the larger one's parent
+  pub both-joined : ra ≢ rb → Joined p (set q (parentAt (max ra rb)) (min ra rb)) n a b true
+  both-joined e = record {
     kept = kept-trans p q _ n (C .kept) (linked-kept q n ra rb Q in-a in-b (C .self-a) (C .self-b));
-    told = rw (C .is-a, C .is-b);
+    told = sym (rw (← C .is-a, ← C .is-b) (ap not (ne-eqb ra rb e)));
     grouped = λ r m. linked-root q n ra rb Q in-a in-b (C .self-a) (C .self-b) r m ∙ right r m;
   }
     where

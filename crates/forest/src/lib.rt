@@ -42,18 +42,20 @@ pub fn find(p: &mut [u32], x: usize) -> usize
     }
 }
 
-// Makes one group of the groups of runs `a` and `b`; true where they were two. The smaller root stays a root: where the two roots are
-// one, the store changes nothing, which is faster than a branch.
+// Makes one group of the groups of runs `a` and `b`; true where they were two. The smaller root stays a root.
 pub fn union(p: &mut [u32], a: usize, b: usize) -> bool
     requires { ⌜ Parents (now p) (suc (max a b)) ⌝ }
     ensures { λ t. ⌜ Unites (now (p .entry)) (now (p .exit)) a b t ⌝ }
 {
     let ra = find(p, a);
     let rb = find(p, b);
+    if ra == rb {
+        return false;
+    }
     let lo = if ra < rb { ra } else { rb };
     let hi = if ra < rb { rb } else { ra };
     p[frame::STRIDE * hi + frame::PARENT] = lo as u32;
-    ra != rb
+    true
 }
 
 // The run words, held.

@@ -1,4 +1,4 @@
--- `forest::union` meets its contract: what both finds ensure is put together once, in `roots`, and the store is one law.
+-- `forest::union` meets its contract: what both finds ensure is put together once, in `roots`; then one root or two.
 -- Assumes nothing.
 use Prim.Native.Nat.{ℕ, suc, _≤_, _<_, min, max}
 use mathlib.Core.Path.{_≡_}
@@ -8,7 +8,7 @@ use lib.ListN.{length-set}
 use Rattle.frame.specs.Words.{parentAt}
 use Rattle.forest.specs.Unions.{Parents, Found}
 use Rattle.forest.proofs.ParentLaws.{parents-fewer, kept-parents}
-use Rattle.forest.proofs.UnionLaws.{Both, both, both-joined}
+use Rattle.forest.proofs.UnionLaws.{Both, both, both-idle, both-joined}
 use Rattle.forest.proofs.union.Statement.{statement}
 use Rattle.forest.proofs.union.Tie as tie
 use Rattle.forest.proofs.union.Reads as reads
@@ -34,15 +34,15 @@ roots-max : (c : tie.After-find2) → Both (start c .args .p .now) (c .find2 .la
 roots-max c = roots c _ (start c .pre) (omega arith) (omega arith)
 
 -- lo and hi are the smaller and the larger root
-is-lo : (c : tie.Joined1) → c .if1 .lo ≡ min (at-find (c .before .before .before) .find .result) (c .before .before .before .find2 .result)
-is-lo c = elim (c .if1 .came) [ inl w ↦ let t = w .0 .taken in let e = w .1 in omega arith | inr w ↦ let t = w .0 .left in let e = w .1 in omega arith ]
+is-lo : (c : tie.Joined2) → c .if2 .lo ≡ min (at-find (c .before .before .before .before) .find .result) (c .before .before .before .before .find2 .result)
+is-lo c = elim (c .if2 .came) [ inl w ↦ let t = w .0 .taken in let e = w .1 in omega arith | inr w ↦ let t = w .0 .left in let e = w .1 in omega arith ]
 
-is-hi : (c : tie.Joined2) → c .if2 .hi ≡ max (at-find (c .before .before .before .before) .find .result) (c .before .before .before .before .find2 .result)
-is-hi c = elim (c .if2 .came) [ inl w ↦ let t = w .0 .taken in let e = w .1 in omega arith | inr w ↦ let t = w .0 .left in let e = w .1 in omega arith ]
+is-hi : (c : tie.Joined3) → c .if3 .hi ≡ max (at-find (c .before .before .before .before .before) .find .result) (c .before .before .before .before .before .find2 .result)
+is-hi c = elim (c .if3 .came) [ inl w ↦ let t = w .0 .taken in let e = w .1 in omega arith | inr w ↦ let t = w .0 .left in let e = w .1 in omega arith ]
 
 -- hence hi is not above both runs
-hi-low : (c : tie.Joined2) → c .if2 .hi ≤ max (start (c .before .before .before .before) .args .a) (start (c .before .before .before .before) .args .b)
-hi-low c = let B = roots-max (c .before .before .before .before) in omega (arith, is-hi c, B .low-a, B .low-b)
+hi-low : (c : tie.Joined3) → c .if3 .hi ≤ max (start (c .before .before .before .before .before) .args .a) (start (c .before .before .before .before .before) .args .b)
+hi-low c = let B = roots-max (c .before .before .before .before .before) in omega (arith, is-hi c, B .low-a, B .low-b)
 
 find-requires : tie.Need-find-requires
 find-requires c κs = parents-fewer _ _ _ (c .before .before .pre) (omega arith)
@@ -55,30 +55,41 @@ find-requires-2 c κs =
 
 cast-p : tie.Need-cast-p
 cast-p c =
-    let k = c .before .before .before in
+    let k = c .before .before .before .before in
     let B = roots-max (k .before .before) in
     omega (arith, is-lo (c .before .before), B .self-a, k .slice-known3 .given (parentAt (at-find (k .before .before) .find .result)))
 
 mul-p : tie.Need-mul-p
-mul-p c = let j = c .before .before in let s = start (j .before .before .before .before) in omega (arith, hi-low j, s .pre .room, s .good)
+mul-p c = let j = c .before .before in let s = start (j .before .before .before .before .before) in omega (arith, hi-low j, s .pre .room, s .good)
 
 add-p : tie.Need-add-p
-add-p c = let j = c .before .before in let s = start (j .before .before .before .before) in omega (arith, hi-low j, s .pre .room, s .good)
+add-p c = let j = c .before .before in let s = start (j .before .before .before .before .before) in omega (arith, hi-low j, s .pre .room, s .good)
 
 mul-p-2 : tie.Need-mul-p-2
-mul-p-2 c = let j = c .before .before in let s = start (j .before .before .before .before) in omega (arith, hi-low j, s .pre .room, s .good)
+mul-p-2 c = let j = c .before .before in let s = start (j .before .before .before .before .before) in omega (arith, hi-low j, s .pre .room, s .good)
 
 slice-write-p : tie.Need-slice-write-p
-slice-write-p c = let j = c .before .before in let f = j .before .before .before .before in omega (arith, hi-low j, start f .pre .room, roots-max f .kept .long)
+slice-write-p c = let j = c .before .before in let f = j .before .before .before .before .before in omega (arith, hi-low j, start f .pre .room, roots-max f .kept .long)
 
+-- one root: nothing is stored
 same-length : tie.Need-same-length
-same-length c = simp length-set (roots-max (c .before .before .before .before .before .before) .kept .long)
+same-length c = roots-max (c .before .before .before) .kept .long
 
 returns : tie.Need-returns
 returns c =
+    let f = c .before .before .before in
+    λ n P ha hb. both-idle _ _ _ n _ _ _ _ P ha hb (at-find f .find .ensures n P ha) (found-b f n P ha hb) (c .if1 .taken)
+
+-- two
+same-length-2 : tie.Need-same-length-2
+same-length-2 c = simp length-set (roots-max (c .before .before .before .before .before .before .before) .kept .long)
+
+returns-2 : tie.Need-returns-2
+returns-2 c =
     let j = c .before .before in
-    let f = j .before .before .before .before in
-    λ n P ha hb. rw (is-lo (j .before), is-hi j) (both-joined _ _ _ n _ _ _ _ P ha hb (at-find f .find .ensures n P ha) (found-b f n P ha hb))
+    let e = j .before .before in
+    let f = e .before .before .before in
+    λ n P ha hb. rw (is-lo (j .before), is-hi j) (both-joined _ _ _ n _ _ _ _ P ha hb (at-find f .find .ensures n P ha) (found-b f n P ha hb) (e .if1 .left))
 
 pub union-spec : {M : Type 1} → statement M
-union-spec = tie.close (tie.spec find-requires find-requires-2 cast-p mul-p add-p mul-p-2 slice-write-p same-length returns)
+union-spec = tie.close (tie.spec find-requires find-requires-2 same-length returns cast-p mul-p add-p mul-p-2 slice-write-p same-length-2 returns-2)

@@ -1,0 +1,4 @@
+-- What the contracts of `runs` cite.
+pub mod Extract
+pub mod Masks
+pub mod Boundaries
