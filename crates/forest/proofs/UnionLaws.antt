@@ -15,7 +15,7 @@ use Rattle.groups.proofs.RepLaws.{Merged, merged, merge-hit, merge-miss, rep-id
 use Rattle.frame.specs.Memory.{stride}
 use Rattle.frame.specs.Words.{parentAt}
 use Rattle.forest.specs.Forest.{rootOf, grouping}
-use Rattle.forest.specs.Unions.{parentIn, Parents, Kept, Found, Finds, Joined, Unites}
+use Rattle.forest.specs.Unions.{parentIn, Parents, ParentsOnly, Found, Finds, Union, Unites}
 use Rattle.forest.proofs.ForestLaws.{root-stays, root-le, root-root, root-parent, root-unique, grouping-rep}
 use Rattle.forest.proofs.ParentLaws.{kept-parents, kept-trans, put-same, put-other, put-kept}
 
@@ -36,7 +36,7 @@ module _ (p : List ℕ) (n x : ℕ) (P : Parents p n) (h : x < n) where
   room : stride * suc x ≤ length p
   room = omega (arith, P .room)
 
-  half-kept : Kept p (half p x) n
+  half-kept : ParentsOnly p (half p x) n
   half-kept = put-kept p n x (over p x) P h (le-trans over-low up-low)
 
   over-root : rootOf (parentIn p) (over p x) ≡ rootOf (parentIn p) x
@@ -95,7 +95,7 @@ module _ (p : List ℕ) (n x y : ℕ) (P : Parents p n) (hx : x < n) (hy : y < n
   hi-room : stride * suc hi ≤ length p
   hi-room = omega (arith, P .room)
 
-  linked-kept : Kept p (set p (parentAt (max x y)) (min x y)) n
+  linked-kept : ParentsOnly p (set p (parentAt (max x y)) (min x y)) n
   linked-kept = put-kept p n hi lo P (omega arith) (omega arith)
 
   linked-root : (r : ℕ) → r < n → rootOf (parentIn (set p (parentAt (max x y)) (min x y))) r ≡ merge x y (rootOf (parentIn p) r)
@@ -116,7 +116,7 @@ module _ (p : List ℕ) (n x y : ℕ) (P : Parents p n) (hx : x < n) (hy : y < n
 
 -- what is known after the finds of a and of b, one after the other
 pub record Both (p q : List ℕ) (n a b ra rb : ℕ) : Type 0 where
-  pub kept : Kept p q n
+  pub kept : ParentsOnly p q n
   pub same : (r : ℕ) → r < n → rootOf (parentIn q) r ≡ rootOf (parentIn p) r
   pub is-a : ra ≡ rootOf (parentIn p) a
   pub is-b : rb ≡ rootOf (parentIn p) b
@@ -138,7 +138,7 @@ module _ (p o q : List ℕ) (n a b ra rb : ℕ) (P : Parents p n) (ha : a < n) (
     self-b = self b hb rb (B .same b hb ∙ sym (B .found));
   }
     where
-      K : Kept p q n
+      K : ParentsOnly p q n
       K = kept-trans p o q n (A .kept) (B .kept)
 
       same : (r : ℕ) → r < n → rootOf (parentIn q) r ≡ rootOf (parentIn p) r
@@ -151,7 +151,7 @@ module _ (p o q : List ℕ) (n a b ra rb : ℕ) (P : Parents p n) (ha : a < n) (
       self x h s e = rw e at (root-root (parentIn q) n (K .low) x h)
 
   -- where the roots are one, nothing is stored
-  pub both-idle : ra ≡ rb → Joined p q n a b false
+  pub both-idle : ra ≡ rb → Union p q n a b false
   both-idle e = record {
     kept = both .kept;
     told = sym (ap not (eq-eqb _ _ one));
@@ -165,7 +165,7 @@ module _ (p o q : List ℕ) (n a b ra rb : ℕ) (P : Parents p n) (ha : a < n) (
       at = grouping-rep (parentIn p) n (P .low)
 
   -- else the smaller root is stored as the larger one's parent
-  pub both-joined : ra ≢ rb → Joined p (set q (parentAt (max ra rb)) (min ra rb)) n a b true
+  pub both-joined : ra ≢ rb → Union p (set q (parentAt (max ra rb)) (min ra rb)) n a b true
   both-joined e = record {
     kept = kept-trans p q _ n (C .kept) (linked-kept q n ra rb Q in-a in-b (C .self-a) (C .self-b));
     told = sym (rw (← C .is-a, ← C .is-b) (ap not (ne-eqb ra rb e)));

@@ -14,7 +14,7 @@ use Rattle.groups.proofs.RepLaws.{Ends, rep-same}
 use Rattle.groups.proofs.GroupLaws.{groups-joins, all-live, joins-same}
 use Rattle.groups.proofs.VisitLaws.{visit-append, visit-joined, joined-visit, rep-over, joins-over, ends-visit}
 use Rattle.forest.specs.Forest.{rootOf, roots, grouping}
-use Rattle.forest.specs.Unions.{parentIn, Parents, Joined, United}
+use Rattle.forest.specs.Unions.{parentIn, Parents, Union, United}
 use Rattle.forest.proofs.ForestLaws.{grouping-rep, grouping-rep-all, grouping-ends, roots-groups, roots-grouping}
 use Rattle.forest.proofs.ParentLaws.{kept-refl, kept-trans}
 
@@ -27,7 +27,7 @@ module _ (p : List ℕ) (n : ℕ) (P : Parents p n) where
   united-none = record { kept = kept-refl p n P; grouped = λ r h. sym (unfold visit in grouping-rep (parentIn p) n (P .low) r h); counted = unfold visit in omega arith }
 
   -- one union
-  module _ (q : List ℕ) (a b : ℕ) (t : Bool) (ha : a < n) (hb : b < n) (J : Joined p q n a b t) where
+  module _ (q : List ℕ) (a b : ℕ) (t : Bool) (ha : a < n) (hb : b < n) (J : Union p q n a b t) where
     abbrev e : Edge
     e = record { from = a; to = b }
 
@@ -100,5 +100,5 @@ module _ (p : List ℕ) (n : ℕ) (P : Parents p n) where
         over xs ys k a b h = joined-visit ys old a b (part xs ys k a b (visit-joined xs old a b h))
 
   -- a union that joins leaves one root fewer
-  pub joined-roots : (q : List ℕ) (a b : ℕ) (t : Bool) → a < n → b < n → Joined p q n a b t → roots (parentIn q) n + cond t 1 0 ≡ roots (parentIn p) n
+  pub joined-roots : (q : List ℕ) (a b : ℕ) (t : Bool) → a < n → b < n → Union p q n a b t → roots (parentIn q) n + cond t 1 0 ≡ roots (parentIn p) n
   joined-roots q a b t ha hb J = united-groups q (record { from = a; to = b } ∷ []) (cond t 1 0) (ha, hb, tt) (joined-united q a b t ha hb J)

@@ -8,7 +8,7 @@ ghost use Rattle.frame.specs.Memory.{stride};
 ghost use Rattle.frame.specs.Kinds.{nz, nzℤ, nzF};
 ghost use Rattle.runs.specs.Extract.{Room, Extracted};
 ghost use Rattle.forest.specs.Unions.{Reset};
-ghost use Rattle.link.specs.Lines.{LineReady, Linked, touchesIn, runsTo};
+ghost use Rattle.link.specs.Lines.{LineReady, UnitedIn, touchesIn, runsTo};
 
 #[no_mangle]
 pub extern "C" fn leaves_c_u8(line: &[u8], split: bool, words: &mut [u32], at: usize) -> usize
@@ -70,7 +70,7 @@ pub extern "C" fn leaves_c_union(
     line: usize,
 ) -> usize
     requires { ⌜ LineReady n (d0 ∷ d1 ∷ d2 ∷ []) lines (now structure) (now words) line ⌝ }
-    ensures { λ t. ⌜ Linked lines (now (words .entry)) (now (words .exit)) (runsTo (now (words .entry)) line) (touchesIn n (d0 ∷ d1 ∷ d2 ∷ []) lines (now (structure .entry)) (now (words .entry)) line) t ⌝ }
+    ensures { λ t. ⌜ UnitedIn lines (now (words .entry)) (now (words .exit)) (runsTo (now (words .entry)) line) (touchesIn n (d0 ∷ d1 ∷ d2 ∷ []) lines (now (structure .entry)) (now (words .entry)) line) t ⌝ }
 {
     link::union_line(words, lines, [d0, d1, d2], n, structure, line)
 }

@@ -6,7 +6,6 @@ use mathlib.Core.List.{List, [], _∷_, _++_, map}
 use Prim.Native.Nat.{ℕ, zero, suc, _+_, _-_, _*_, _/_, _%_, _≤_, _<_}
 use native.Mathlib.Nat.{mul-assoc, add-mul, mul-le-mul-left, mul-le-mul-right, div-lt-iff-lt-mul, div-eq-of-lt, mod-eq-of-lt, div-le-self, mod-le, mod-lt}
 use native.Mathlib.Omega.{arith}
-use lib.Dec.{ltb, leb}
 use lib.IntN.{ℤ, pos, natAbs}
 use lib.ListN.{length, getD, replicate}
 use mir.Syntax.{w64}
@@ -15,7 +14,7 @@ use Rattle.frame.specs.Shape.{size, width, leading, coords}
 use Rattle.frame.specs.Touches.{hasNbr, nbrLine}
 use Rattle.frame.proofs.ShapeLaws.{factor-pos, size-lines, coords-line}
 use Rattle.link.specs.declared.NbrLine.the-variants.{At, Nothing}
-use Rattle.link.specs.Offsets.{digit}
+use Rattle.link.specs.Offsets.{digit, movesIn}
 use Rattle.link.specs.Lines.{signedCoords, nbrOf}
 use Rattle.link.proofs.SignedLaws.{small}
 
@@ -132,10 +131,6 @@ module _ (dims : List ℕ) (ℓ : ℕ) (three : length dims ≡ 3) (h : ℓ < si
       ∙ sym (ap (map pos) coords-are)
 
 -- ---- neighbours
-
--- a coordinate x, moved by the offset with the digit t, is in a dimension of d
-abbrev pub movesIn : ℕ → ℕ → ℕ → Bool
-movesIn x t d = ltb 0 (x + t) && leb (x + t) d
 
 regroup : (a b c : Bool) → a && (b && (c && true)) ≡ (a && b) && c
 regroup false b c = refl

@@ -4,11 +4,11 @@ pub mod SweepLaws
 pub mod TurnLaws
 pub mod ShiftLaws
 pub mod SideLaws
-pub mod StepLaws
+pub mod MoveLaws
 pub mod OffsetLaws
 pub mod CoordinateLaws
 pub mod NbrLineLaws
-pub mod StepsLaws
-pub mod LinkedLaws
+pub mod MovesLaws
+pub mod PartLaws
 pub mod TouchByLaws
 pub mod LineTouchLaws

@@ -22,8 +22,8 @@ use Rattle.frame.proofs.TouchLaws.{nbr-earlier}
 use Rattle.forest.specs.Unions.{parentIn}
 use Rattle.forest.proofs.ForestLaws.{roots-others}
 use Rattle.forest.proofs.UnitedLaws.{united-groups}
-use Rattle.link.specs.Lines.{leadingOf, LineReady, Linked, touchesIn, runsTo}
-use Rattle.link.proofs.LinkedLaws.{part-ready, starts-rise, linked-start, linked-runs, linked-then}
+use Rattle.link.specs.Lines.{leadingOf, LineReady, UnitedIn, touchesIn, runsTo}
+use Rattle.link.proofs.PartLaws.{part-ready, starts-rise, in-start, in-runs, in-then}
 use Rattle.link.proofs.TouchByLaws.{leading-length, leading-size}
 
 module _ (n : ℕ) (dims : List ℕ) (L : ℕ) (structure ws : List ℕ) (ℓ : ℕ) (R : LineReady n dims L structure ws ℓ) (three : length dims ≡ 3) where
@@ -94,14 +94,14 @@ module _ (n : ℕ) (dims : List ℕ) (L : ℕ) (structure ws : List ℕ) (ℓ : 
 
   -- ---- by one code more
 
-  module _ (now : List ℕ) (k t : ℕ) (E : Linked L ws now (runsTo ws ℓ) (gather (touchesBy (leadingOf n dims) structure (lineStart ws) (storedRun L ws) ℓ) 0 k) t) where
+  module _ (now : List ℕ) (k t : ℕ) (E : UnitedIn L ws now (runsTo ws ℓ) (gather (touchesBy (leadingOf n dims) structure (lineStart ws) (storedRun L ws) ℓ) 0 k) t) where
     same-by : touchesBy (leadingOf n dims) structure (lineStart now) (storedRun L now) ℓ k ≡ by k
-    same-by = ap (λ (q : ℕ → Run). touchesBy ds structure (lineStart now) q ℓ k) (linked-runs L ws now N (gather by 0 k) t E) ∙ same-starts (lineStart now) (lineStart ws) (storedRun L ws) k (λ m h. linked-start L ws now N (gather by 0 k) t E m (let w = R .lines .within in omega arith))
+    same-by = ap (λ (q : ℕ → Run). touchesBy ds structure (lineStart now) q ℓ k) (in-runs L ws now N (gather by 0 k) t E) ∙ same-starts (lineStart now) (lineStart ws) (storedRun L ws) k (λ m h. in-start L ws now N (gather by 0 k) t E m (let w = R .lines .within in omega arith))
 
-    pub touches-more : (vs : List ℕ) (u : ℕ) → Linked L now vs (runsTo now ℓ) (touchesBy (leadingOf n dims) structure (lineStart now) (storedRun L now) ℓ k) u → Linked L ws vs (runsTo ws ℓ) (gather (touchesBy (leadingOf n dims) structure (lineStart ws) (storedRun L ws) ℓ) 0 (k + 1)) (t + u)
+    pub touches-more : (vs : List ℕ) (u : ℕ) → UnitedIn L now vs (runsTo now ℓ) (touchesBy (leadingOf n dims) structure (lineStart now) (storedRun L now) ℓ k) u → UnitedIn L ws vs (runsTo ws ℓ) (gather (touchesBy (leadingOf n dims) structure (lineStart ws) (storedRun L ws) ℓ) 0 (k + 1)) (t + u)
     touches-more vs u F =
-        subst (λ (es : List Edge). Linked L ws vs N es (t + u)) (sym more)
-        (linked-then L ws ℓ (R .lines) now (gather by 0 k) t E (upto-ends k) vs (by k) u (subst (λ (es : List Edge). Linked L now vs (runsTo now ℓ) es u) same-by F))
+        subst (λ (es : List Edge). UnitedIn L ws vs N es (t + u)) (sym more)
+        (in-then L ws ℓ (R .lines) now (gather by 0 k) t E (upto-ends k) vs (by k) u (subst (λ (es : List Edge). UnitedIn L now vs (runsTo now ℓ) es u) same-by F))
       where
         more : gather by 0 (k + 1) ≡ gather by 0 k ++ by k
         more = ap (gather by 0) (add-one k) ∙ gather-snoc by 0 k ∙ ap (λ (x : ℕ). gather by 0 k ++ by x) (zero-add k)

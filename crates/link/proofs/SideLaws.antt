@@ -103,14 +103,14 @@ module _ {p : List ℕ} {ca cb na nb : ℕ} (L : TwoLines p ca cb na nb) where
   edges-ends : (prev adj next : Bool) → Ends (λ r. r < cb) (edges prev adj next)
   edges-ends prev adj next = pairs-ends _ ca (cb - ca) na (nb - na) cb (omega (arith, L .current .upto)) (omega (arith, L .neighbour .upto, L .before))
 
-  pub linked-few : {q : List ℕ} {t : ℕ} (prev adj next : Bool) → United p q cb (edges prev adj next) t → t ≤ cb
-  linked-few prev adj next U = united-few (L .parents) (edges-ends prev adj next) U
+  pub link-few : {q : List ℕ} {t : ℕ} (prev adj next : Bool) → United p q cb (edges prev adj next) t → t ≤ cb
+  link-few prev adj next U = united-few (L .parents) (edges-ends prev adj next) U
 
-  pub linked-none : (prev adj next : Bool) → (eqb ca cb || eqb na nb) ≡ true → United p p cb (edges prev adj next) 0
-  linked-none prev adj next e = rw (link-none (runIn p) ca cb na nb prev adj next e) (united-none p cb (L .parents))
+  pub link-idle : (prev adj next : Bool) → (eqb ca cb || eqb na nb) ≡ true → United p p cb (edges prev adj next) 0
+  link-idle prev adj next e = rw (link-none (runIn p) ca cb na nb prev adj next e) (united-none p cb (L .parents))
 
-  pub linked-wide : {q : List ℕ} {lo hi t : ℕ} (prev adj next : Bool) → adj ≡ true → lo ≡ wide next → hi ≡ wide prev → United p q cb (sweepPairs lo hi (runIn p) ca cb na nb) t → United p q cb (edges prev adj next) t
-  linked-wide prev adj next e x y U = rw (e, link-wide (L .current) (L .neighbour) prev next) (rw (x, y) at U)
+  pub link-widened : {q : List ℕ} {lo hi t : ℕ} (prev adj next : Bool) → adj ≡ true → lo ≡ wide next → hi ≡ wide prev → United p q cb (sweepPairs lo hi (runIn p) ca cb na nb) t → United p q cb (edges prev adj next) t
+  link-widened prev adj next e x y U = rw (e, link-wide (L .current) (L .neighbour) prev next) (rw (x, y) at U)
 
   -- a sweep to a side where its byte is set
   abbrev pub Side : List ℕ → Bool → ℕ → ℕ → ℕ → Type 0

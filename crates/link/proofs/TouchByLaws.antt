@@ -15,7 +15,7 @@ use Rattle.frame.proofs.StructureLaws.{backward-below}
 use Rattle.frame.proofs.TouchLaws.{nbr-earlier}
 use Rattle.link.specs.declared.NbrLine.{NbrLine}
 use Rattle.link.specs.declared.NbrLine.the-variants.{At, Nothing}
-use Rattle.link.specs.Lines.{Leading, leadingOf, threeDigits, nbrOf, pairsOf}
+use Rattle.link.specs.Lines.{ThreeDims, leadingOf, threeDigits, nbrOf, pairsOf}
 use Rattle.link.proofs.CoordinateLaws.{size-ones, has-ones, line-ones}
 
 -- ---- the answer of nbr_line
@@ -51,7 +51,7 @@ module _ (ds ts : List ℕ) (ℓ : ℕ) where
 
 -- ---- n leading dimensions among three
 
-module _ (n : ℕ) (dims : List ℕ) (L : ℕ) (D : Leading n dims L) (three : length dims ≡ 3) where
+module _ (n : ℕ) (dims : List ℕ) (L : ℕ) (D : ThreeDims n dims L) (three : length dims ≡ 3) where
   pub dims-are : dims ≡ replicate (3 - n) 1 ++ leadingOf n dims
   dims-are = sym (take-append-drop (3 - n) dims) ∙ ap (λ (l : List ℕ). l ++ leadingOf n dims) (D .ones)
 

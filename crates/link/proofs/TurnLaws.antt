@@ -15,7 +15,7 @@ use Rattle.groups.specs.Groups.{Edge}
 use Rattle.groups.proofs.RepLaws.{Ends}
 use Rattle.frame.specs.Runs.{Run}
 use Rattle.frame.specs.Words.{startAt, endAt}
-use Rattle.forest.specs.Unions.{parentIn, Parents, Kept, United, Unites}
+use Rattle.forest.specs.Unions.{parentIn, Parents, ParentsOnly, United, Unites}
 use Rattle.forest.proofs.ForestLaws.{roots-others}
 use Rattle.forest.proofs.ParentLaws.{parents-fewer, kept-parents}
 use Rattle.forest.proofs.UnitedLaws.{united-none, united-then, united-groups, joined-united}
@@ -25,7 +25,7 @@ use Rattle.link.proofs.SweepLaws.{starts, order-from, row-none, row-mor
 
 -- ---- unions leave starts and ends
 
-module _ {p q : List ℕ} {n : ℕ} (K : Kept p q n) where
+module _ {p q : List ℕ} {n : ℕ} (K : ParentsOnly p q n) where
   start-kept : (r : ℕ) → getD q (startAt r) 0 ≡ getD p (startAt r) 0
   start-kept r = K .others (startAt r) (λ x h e. omega arith)
 
@@ -35,7 +35,7 @@ module _ {p q : List ℕ} {n : ℕ} (K : Kept p q n) where
   pub runs-kept : runIn q ≡ runIn p
   runs-kept = fun-ext (λ r. ap₂ (λ (s : ℕ) (e : ℕ). record { start = s; end = e }) (start-kept r) (end-kept r))
 
-pub lines-kept : {p q : List ℕ} {ca cb na nb : ℕ} → TwoLines p ca cb na nb → Kept p q cb → TwoLines q ca cb na nb
+pub lines-kept : {p q : List ℕ} {ca cb na nb : ℕ} → TwoLines p ca cb na nb → ParentsOnly p q cb → TwoLines q ca cb na nb
 lines-kept {p} {q} {cb = cb} L K = record { parents = kept-parents p q cb (L .parents) K; current = rw (runs-kept K) (L .current); neighbour = rw (runs-kept K) (L .neighbour); before = L .before }
 
 -- no more joins than runs
@@ -78,7 +78,7 @@ module _ {p : List ℕ} {lo i j nb : ℕ} where
   row-begins h = record { low = le-refl j; high = h; few = omega arith; long = refl; united = λ n P a b. rw (row-none lo (runIn p) i j) (united-none p n P) }
 
   module _ {q : List ℕ} {k t : ℕ} (P : Parents p (max (suc i) nb)) (T : RowTo p lo i j nb q k t) where
-    row-kept : Kept p q (max (suc i) nb)
+    row-kept : ParentsOnly p q (max (suc i) nb)
     row-kept = T .united (max (suc i) nb) P (omega arith) (omega arith) .kept
 
     pub row-parents : k < nb → Parents q (suc (max i k))

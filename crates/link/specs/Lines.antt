@@ -15,7 +15,7 @@ use Rattle.frame.specs.Touches.{hasNbr, nbrLine, touchesOf}
 use Rattle.forest.specs.Unions.{United}
 use Rattle.link.specs.declared.NbrLine.{NbrLine}
 use Rattle.link.specs.declared.NbrLine.the-variants.{At, Nothing}
-use Rattle.link.specs.Offsets.{Step}
+use Rattle.link.specs.Offsets.{Move}
 use Rattle.link.specs.Sweeps.{InOrder, linkPairs}
 
 -- ---- three dimensions: the leading ones are the last n of them, and those before are 1
@@ -24,7 +24,7 @@ abbrev pub leadingOf : ℕ → List ℕ → List ℕ
 leadingOf n dims = drop (3 - n) dims
 
 -- n leading dimensions and their product, the count of lines, which a word holds
-pub record Leading (n : ℕ) (dims : List ℕ) (L : ℕ) : Type 0 where
+pub record ThreeDims (n : ℕ) (dims : List ℕ) (L : ℕ) : Type 0 where
   pub few : n ≤ 3
   pub ones : take (3 - n) dims ≡ replicate (3 - n) 1
   pub product : L ≡ size dims
@@ -39,10 +39,10 @@ abbrev pub signedCoords : List ℕ → ℕ → List ℤ
 signedCoords dims ℓ = map pos (coords dims ℓ)
 
 -- three signed numbers are coordinates of three dimensions, and three others an offset
-pub record Steps (dims : List ℕ) (c o : List ℤ) : Type 0 where
-  pub first : Step (getD c 0 (pos 0)) (getD o 0 (pos 0)) (getD dims 0 0)
-  pub second : Step (getD c 1 (pos 0)) (getD o 1 (pos 0)) (getD dims 1 0)
-  pub third : Step (getD c 2 (pos 0)) (getD o 2 (pos 0)) (getD dims 2 0)
+pub record Moves (dims : List ℕ) (c o : List ℤ) : Type 0 where
+  pub first : Move (getD c 0 (pos 0)) (getD o 0 (pos 0)) (getD dims 0 0)
+  pub second : Move (getD c 1 (pos 0)) (getD o 1 (pos 0)) (getD dims 1 0)
+  pub third : Move (getD c 2 (pos 0)) (getD o 2 (pos 0)) (getD dims 2 0)
   pub small : size dims < 4294967296
 
 -- the neighbour of line ℓ by the offset with the digits ts, if it has one
@@ -62,14 +62,15 @@ pub record LinesReady (L : ℕ) (ws : List ℕ) (ℓ : ℕ) : Type 0 where
   pub sorted : (m : ℕ) → m ≤ ℓ → InOrder (storedRun L ws) (lineStart ws m) (lineStart ws (suc m))
   pub parents : (r : ℕ) → r < runsTo ws ℓ → parentOf L ws r ≤ r
 
+-- what the union of line ℓ asks besides: the leading dimensions, and a structure of rank n + 1
 pub record LineReady (n : ℕ) (dims : List ℕ) (L : ℕ) (structure ws : List ℕ) (ℓ : ℕ) : Type 0 where
-  pub leading : Leading n dims L
+  pub leading : ThreeDims n dims L
   pub bytes : 3 ^ suc n ≤ length structure
   pub lines : LinesReady L ws ℓ
 
 -- from ws to ws′ the edges of es were added, one after the other, to the grouping that the first n parents hold, and t of those
 -- unions were joins. The line starts stand, and of the runs' words only parents changed
-pub record Linked (L : ℕ) (ws ws′ : List ℕ) (n : ℕ) (es : List Edge) (t : ℕ) : Type 0 where
+pub record UnitedIn (L : ℕ) (ws ws′ : List ℕ) (n : ℕ) (es : List Edge) (t : ℕ) : Type 0 where
   pub starts : take (L + 1) ws′ ≡ take (L + 1) ws
   pub runs : United (drop (L + 1) ws) (drop (L + 1) ws′) n es t
 

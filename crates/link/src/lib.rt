@@ -12,14 +12,14 @@ ghost use mathlib.Core.Bool.{_&&_};
 ghost use mathlib.Core.List.{map};
 ghost use Prim.Native.Nat.{ℕ, _+_, _-_, _/_, _^_, _≤_, _<_};
 ghost use lib.Dec.{ltb, leb};
-ghost use lib.IntN.{pos, natAbs};
+ghost use lib.IntN.{natAbs};
 ghost use Rattle.frame.specs.Shape.{size};
 ghost use Rattle.frame.specs.Words.{lineStart, storedRun};
 ghost use Rattle.frame.specs.Touches.{touchesBy};
 ghost use Rattle.forest.specs.Unions.{United};
-ghost use Rattle.link.specs.Offsets.{digit, Step};
+ghost use Rattle.link.specs.Offsets.{digit, Move, movedTo};
 ghost use Rattle.link.specs.Sweeps.{runIn, TwoLines, ToSweep, ToSkip, ToRow, Skipped, RowUnites, sweepPairs, linkPairs};
-ghost use Rattle.link.specs.Lines.{leadingOf, threeDigits, signedCoords, Steps, nbrOf, LinesReady, LineReady, Linked, pairsOf, touchesIn, runsTo};
+ghost use Rattle.link.specs.Lines.{leadingOf, threeDigits, signedCoords, Moves, nbrOf, LinesReady, LineReady, UnitedIn, pairsOf, touchesIn, runsTo};
 
 // ---- a line and all its neighbours. The words are the whole memory: line starts, then the runs' words
 
@@ -34,7 +34,7 @@ pub fn union_line(
     line: usize,
 ) -> usize
     requires { ⌜ LineReady n dims lines (now structure) (now words) line ⌝ }
-    ensures { λ t. ⌜ Linked lines (now (words .entry)) (now (words .exit)) (runsTo (now (words .entry)) line) (touchesIn n dims lines (now (structure .entry)) (now (words .entry)) line) t ⌝ }
+    ensures { λ t. ⌜ UnitedIn lines (now (words .entry)) (now (words .exit)) (runsTo (now (words .entry)) line) (touchesIn n dims lines (now (structure .entry)) (now (words .entry)) line) t ⌝ }
 {
     if words[line] == words[line + 1] {
         return 0;
@@ -62,7 +62,7 @@ fn union_by(
     k: usize,
 ) -> usize
     requires { ⌜ LineReady n dims lines (now structure) (now words) line × (c ≡ signedCoords dims line) × (k < 3 ^ n / 2) ⌝ }
-    ensures { λ t. ⌜ Linked lines (now (words .entry)) (now (words .exit)) (runsTo (now (words .entry)) line) (touchesBy (leadingOf n dims) (now (structure .entry)) (lineStart (now (words .entry))) (storedRun lines (now (words .entry))) line k) t ⌝ }
+    ensures { λ t. ⌜ UnitedIn lines (now (words .entry)) (now (words .exit)) (runsTo (now (words .entry)) line) (touchesBy (leadingOf n dims) (now (structure .entry)) (lineStart (now (words .entry))) (storedRun lines (now (words .entry))) line k) t ⌝ }
 {
     let prev = structure[3 * k] != 0;
     let adj = structure[3 * k + 1] != 0;
@@ -89,7 +89,7 @@ fn link_lines(
     next: bool,
 ) -> usize
     requires { ⌜ LinesReady lines (now words) line × (m < line) ⌝ }
-    ensures { λ t. ⌜ Linked lines (now (words .entry)) (now (words .exit)) (runsTo (now (words .entry)) line) (pairsOf lines (now (words .entry)) line m prev adj next) t ⌝ }
+    ensures { λ t. ⌜ UnitedIn lines (now (words .entry)) (now (words .exit)) (runsTo (now (words .entry)) line) (pairsOf lines (now (words .entry)) line m prev adj next) t ⌝ }
 {
     let ca = words[line] as usize;
     let cb = words[line + 1] as usize;
@@ -219,7 +219,8 @@ pub fn backward_count(n: usize) -> usize
     13
 }
 
-// The offset of `n` leading dimensions with code `k`, as three parts: 0 in the dimensions before those.
+// The offset of `n` leading dimensions with code `k`, as three parts: 0 in the dimensions before those. Of the 27 offsets of three
+// dimensions the centre's code is 13.
 pub fn delta(n: usize, k: usize) -> [i64; 3]
     requires { ⌜ (n ≤ 3) × (k < 3 ^ n) ⌝ }
     ensures { λ r. ⌜ map digit r ≡ threeDigits n k ⌝ }
@@ -237,7 +238,7 @@ fn part(t: usize) -> i64
     t as i64 - 1
 }
 
-// ---- the neighbour's line, by coordinates. Leading dimensions are three, those before the first being 1
+// ---- the neighbour's line, by coordinates. ThreeDims dimensions are three, those before the first being 1
 
 // The leading coordinates of a line.
 pub fn coords(dims: [usize; 3], line: usize) -> [i64; 3]
@@ -259,35 +260,31 @@ pub enum NbrLine {
 // The line at the offset `o` from the line at the coordinates `c`. One coordinate out of range means that there is none, even
 // where the line's number would fit.
 pub fn nbr_line(dims: [usize; 3], c: [i64; 3], o: [i64; 3]) -> NbrLine
-    requires { ⌜ Steps dims c o ⌝ }
+    requires { ⌜ Moves dims c o ⌝ }
     ensures { λ r. ⌜ ((ℓ : ℕ) → c ≡ signedCoords dims ℓ → r ≡ nbrOf dims (map digit o) ℓ) ⌝ }
 {
     let d0 = dims[0];
     let d1 = dims[1];
     let d2 = dims[2];
-    if inside(c[0], o[0], d0) & inside(c[1], o[1], d1) & inside(c[2], o[2], d2) {
-        let v0 = moved(c[0], o[0]);
-        let v1 = moved(c[1], o[1]);
-        let v2 = moved(c[2], o[2]);
+    let v0 = moved(c[0], o[0], d0);
+    let v1 = moved(c[1], o[1], d1);
+    let v2 = moved(c[2], o[2], d2);
+    if (v0 < d0) & (v1 < d1) & (v2 < d2) {
         NbrLine::At((v0 * d1 + v1) * d2 + v2)
     } else {
         NbrLine::Nothing
     }
 }
 
-// Whether the coordinate `c`, moved by `o`, is still in a dimension of `d`.
-fn inside(c: i64, o: i64, d: usize) -> bool
-    requires { ⌜ Step c o d ⌝ }
-    ensures { λ r. ⌜ r ≡ ltb 0 (natAbs c + digit o) && leb (natAbs c + digit o) d ⌝ }
+// The coordinate `c`, moved by `o`; or `d`, where it is then in no dimension of `d`.
+fn moved(c: i64, o: i64, d: usize) -> usize
+    requires { ⌜ Move c o d ⌝ }
+    ensures { λ r. ⌜ r ≡ movedTo (natAbs c) (digit o) d ⌝ }
 {
     let v = c + o;
-    (v >= 0) & (v < d as i64)
-}
-
-// The coordinate `c`, moved by `o`.
-fn moved(c: i64, o: i64) -> usize
-    requires { ⌜ (c ≡ pos (natAbs c)) × (natAbs c < 4294967296) × (digit o ≤ 2) × (0 < natAbs c + digit o) ⌝ }
-    ensures { λ r. ⌜ r ≡ natAbs c + digit o - 1 ⌝ }
-{
-    (c + o) as usize
+    if (v >= 0) & (v < d as i64) {
+        v as usize
+    } else {
+        d
+    }
 }

@@ -14,7 +14,7 @@ use Rattle.frame.specs.Kinds.{nz}
 use Rattle.frame.specs.Runs.{lineRuns}
 use Rattle.runs.specs.Extract.{Room, Extracted}
 use Rattle.runs.specs.Masks.{bit, maskOf}
-use Rattle.runs.specs.Boundaries.{Fits, Put, consIf, places, alone, edgeBits, blockBoundaries}
+use Rattle.runs.specs.Boundaries.{BoundaryRoom, Put, consIf, places, alone, edgeBits, blockBoundaries}
 use Rattle.runs.proofs.MaskLaws.{bit-lt, mask-nil, mask-lt, places-zero, places-cons, top, moved}
 use Rattle.runs.proofs.BoundaryLaws.{lineBoundaries, boundariesOf, length-boundaries, put-boundaries, line-boundaries, none-past, Left, left-all, left-same, left-put, left-fits, left-none}
 
@@ -148,7 +148,7 @@ pub record Going (left : Bool) (flags : List Bool) (ws₀ : List ℕ) (i : ℕ) 
   pub rest : Left ws₀ i 0 (boundariesOf (lineRuns left flags)) ws k (lineBoundaries left (nz carry) x (drop x flags))
 
 module _ {left : Bool} {flags : List Bool} {ws₀ : List ℕ} {i : ℕ} where
-  pub room-fits : (x : ℕ) → x ≤ length flags → Room left flags ws₀ i → Fits ws₀ i 0 x (boundariesOf (lineRuns left flags))
+  pub room-fits : (x : ℕ) → x ≤ length flags → Room left flags ws₀ i → BoundaryRoom ws₀ i 0 x (boundariesOf (lineRuns left flags))
   room-fits x h r =
       let n = length-boundaries (lineRuns left flags) in
       let o = r .room in
@@ -168,7 +168,7 @@ module _ {left : Bool} {flags : List Bool} {ws₀ : List ℕ} {i : ℕ} where
         (g .rest)
 
     -- the next block's boundaries have room
-    pub going-fits : (m : ℕ) → m ≡ maskOf 64 (drop x flags) → Room left flags ws₀ i → Fits ws i k x (blockBoundaries left m carry x)
+    pub going-fits : (m : ℕ) → m ≡ maskOf 64 (drop x flags) → Room left flags ws₀ i → BoundaryRoom ws i k x (blockBoundaries left m carry x)
     going-fits m e r = left-fits x (blockBoundaries left m carry x) _ (split m e) (room-fits x (g .inside) r)
 
     -- and are written

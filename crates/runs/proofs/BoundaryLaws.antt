@@ -10,7 +10,7 @@ use Rattle.frame.specs.Memory.{stride}
 use Rattle.frame.specs.Words.{startAt, endAt}
 use Rattle.frame.specs.Runs.{Run, stretches, singles, lineRuns}
 use Rattle.runs.specs.Extract.{putRuns}
-use Rattle.runs.specs.Boundaries.{boundaryAt, putBoundaries, Fits, Put, Next, Step, places}
+use Rattle.runs.specs.Boundaries.{boundaryAt, putBoundaries, BoundaryRoom, Put, Next, Took, places}
 
 -- ---- of runs
 
@@ -122,7 +122,7 @@ module _ {ws₀ : List ℕ} {i k₀ : ℕ} {es₀ ws : List ℕ} {k : ℕ} where
       record { words = ap (λ (a : ℕ). putBoundaries (set ws (boundaryAt i k) e) i a es) q ∙ h .words; count = omega arith; long = length-set ws (boundaryAt i k) e ∙ h .long }
 
   -- there is room for it
-  pub left-room : {e : ℕ} {es : List ℕ} (x : ℕ) → Left ws₀ i k₀ es₀ ws k (e ∷ es) → Fits ws₀ i k₀ x es₀ → boundaryAt i k < length ws
+  pub left-room : {e : ℕ} {es : List ℕ} (x : ℕ) → Left ws₀ i k₀ es₀ ws k (e ∷ es) → BoundaryRoom ws₀ i k₀ x es₀ → boundaryAt i k < length ws
   left-room x h f = let n = h .count in let m = h .long in let b = f .below in let r = f .room in omega arith
 
   -- several are
@@ -134,7 +134,7 @@ module _ {ws₀ : List ℕ} {i k₀ : ℕ} {es₀ ws : List ℕ} {k : ℕ} where
       (record { words = sym (put-append es r ws i k) ∙ h .words; count = omega arith; long = length-put es ws i k ∙ h .long })
 
   -- there is room for them
-  pub left-fits : (x : ℕ) (es r : List ℕ) → Left ws₀ i k₀ es₀ ws k (es ++ r) → Fits ws₀ i k₀ x es₀ → Fits ws i k x es
+  pub left-fits : (x : ℕ) (es r : List ℕ) → Left ws₀ i k₀ es₀ ws k (es ++ r) → BoundaryRoom ws₀ i k₀ x es₀ → BoundaryRoom ws i k x es
   left-fits x es r h f =
       let n = h .count in
       let m = length-append es r in
@@ -144,10 +144,10 @@ module _ {ws₀ : List ℕ} {i k₀ : ℕ} {es₀ ws : List ℕ} {k : ℕ} where
       record { runs = f .runs; below = omega arith; room = omega arith; short = f .short }
 
   -- the places of a number's set digits, and of those the next
-  pub left-step : {ws′ : List ℕ} (x e e′ : ℕ) → Left ws₀ i k₀ es₀ ws k (places 64 e x) → Step ws ws′ i k x e e′ → Left ws₀ i k₀ es₀ ws′ (k + 1) (places 64 e′ x)
-  left-step x e e′ h s = left-same (sym (s .written)) refl refl (left-one (left-same refl refl (s .lowest) h))
+  pub left-took : {ws′ : List ℕ} (x e e′ : ℕ) → Left ws₀ i k₀ es₀ ws k (places 64 e x) → Took ws ws′ i k x e e′ → Left ws₀ i k₀ es₀ ws′ (k + 1) (places 64 e′ x)
+  left-took x e e′ h s = left-same (sym (s .written)) refl refl (left-one (left-same refl refl (s .lowest) h))
 
-  pub left-next : (x e : ℕ) → (e ≡ 0 → ⊥) → Left ws₀ i k₀ es₀ ws k (places 64 e x) → Fits ws₀ i k₀ x es₀ → Next ws i k x e
+  pub left-next : (x e : ℕ) → (e ≡ 0 → ⊥) → Left ws₀ i k₀ es₀ ws k (places 64 e x) → BoundaryRoom ws₀ i k₀ x es₀ → Next ws i k x e
   left-next x e p h f =
       let n = h .count in
       let l = h .long in

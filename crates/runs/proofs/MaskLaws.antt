@@ -100,8 +100,8 @@ weigh-turn l t i b h g f k p = go (decLt k i)
         subst (λ (n : ℕ). getD (set t i v) n 0 ≡ bit (getD l n false) * 2 ^ (n % 8)) e (getD-set-same t i v 0 h ∙ is)
 
 -- a turn of the loop that joins eight weights
-pub join-turn : (l : List Bool) (t : List ℕ) (j i s : ℕ) → Weighs l t 64 → j + i < 64 → j % 8 ≡ 0 → i < 8 → s ≡ maskOf i (drop j l) → s + getD t (j + i) 0 ≡ maskOf (i + 1) (drop j l)
-join-turn l t j i s f h r g e =
+pub eight-turn : (l : List Bool) (t : List ℕ) (j i s : ℕ) → Weighs l t 64 → j + i < 64 → j % 8 ≡ 0 → i < 8 → s ≡ maskOf i (drop j l) → s + getD t (j + i) 0 ≡ maskOf (i + 1) (drop j l)
+eight-turn l t j i s f h r g e =
     let m : (j + i) % 8 ≡ i = omega arith in
     let w : getD t (j + i) 0 ≡ bit (getD (drop j l) i false) * 2 ^ i = f (j + i) h ∙ ap₂ (λ (c : Bool) (n : ℕ). bit c * 2 ^ n) (sym (getD-drop j l i false)) m in
     let a = mask-more i (drop j l) in

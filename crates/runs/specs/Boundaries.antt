@@ -21,7 +21,7 @@ putBoundaries ws i k [] = ws
 putBoundaries ws i k (e ∷ es) = putBoundaries (set ws (boundaryAt i k) e) i (suc k) es
 
 -- what writing boundaries from column x on asks: there is room for them, as there is for some count of runs
-pub record Fits (ws : List ℕ) (i k x : ℕ) (es : List ℕ) : Type 0 where
+pub record BoundaryRoom (ws : List ℕ) (i k x : ℕ) (es : List ℕ) : Type 0 where
   pub runs : ℕ
   pub below : k + length es ≤ 2 * runs
   pub room : i + stride * runs ≤ length ws
@@ -46,9 +46,9 @@ places (suc k) e x = consIf (e % 2) x (places k (e / 2) (suc x))
 -- what writing the lowest of them as boundary k asks, and what it does: e′ is e without that digit
 pub record Next (ws : List ℕ) (i k x e : ℕ) : Type 0 where
   pub some : 0 < e
-  pub fits : Fits ws i k x (places 64 e x)
+  pub fits : BoundaryRoom ws i k x (places 64 e x)
 
-pub record Step (ws ws′ : List ℕ) (i k x e e′ : ℕ) : Type 0 where
+pub record Took (ws ws′ : List ℕ) (i k x e e′ : ℕ) : Type 0 where
   pub place : ℕ
   pub lowest : places 64 e x ≡ place ∷ places 64 e′ x
   pub written : ws′ ≡ set ws (boundaryAt i k) place

@@ -31,7 +31,7 @@ abbrev pub Weighs : List Bool → List ℕ → ℕ → Type 0
 Weighs flags t n = (i : ℕ) → i < n → getD t i 0 ≡ bit (getD flags i false) * 2 ^ (i % 8)
 
 -- t has the weights of some flags, and eight of them begin at place j
-pub record Joins (t : List ℕ) (j : ℕ) : Type 0 where
+pub record Eight (t : List ℕ) (j : ℕ) : Type 0 where
   pub flags : List Bool
   pub weighed : Weighs flags t 64
   pub inside : j < 64

@@ -12,8 +12,8 @@ ghost use lib.ListN.{length, drop, set};
 ghost use lib.Count.{trailingZeros};
 ghost use Rattle.frame.specs.Kinds.{nz, nzℤ, nzF};
 ghost use Rattle.runs.specs.Extract.{Room, Extracted};
-ghost use Rattle.runs.specs.Masks.{maskOf, Part, Shows, Weighs, Joins};
-ghost use Rattle.runs.specs.Boundaries.{boundaryAt, Fits, Put, Next, Step, places, alone, blockBoundaries};
+ghost use Rattle.runs.specs.Masks.{maskOf, Part, Shows, Weighs, Eight};
+ghost use Rattle.runs.specs.Boundaries.{boundaryAt, BoundaryRoom, Put, Next, Took, places, alone, blockBoundaries};
 
 // ---- lines of each kind. With `split` (the left byte is zero) each nonzero cell is a run, else each maximal stretch of them. Past the
 // last 64 cells there are fewer, or none: a zero follows them, so that a run that reaches the line's end ends there
@@ -268,7 +268,7 @@ fn mask64(b: [u8; 64]) -> u64
     let mut m: u64 = 0;
     let mut j: usize = 0;
     while j < 64 {
-        m |= (join(t, j) as u64) << j;
+        m |= (mask8(t, j) as u64) << j;
         j += 8;
     }
     m
@@ -288,8 +288,8 @@ fn weigh(b: [u8; 64]) -> [u8; 64]
 }
 
 // The mask of the eight bytes from j on, by their weights. A sum, not an or: the compiler makes one instruction of it.
-fn join(t: [u8; 64], j: usize) -> u8
-    requires { ⌜ Joins t j ⌝ }
+fn mask8(t: [u8; 64], j: usize) -> u8
+    requires { ⌜ Eight t j ⌝ }
     ensures { λ r. ⌜ ((l : List Bool) → Weighs l t 64 → r ≡ maskOf 8 (drop j l)) ⌝ }
 {
     let mut s: u8 = 0;
@@ -314,7 +314,7 @@ fn block_boundaries(
     split: bool,
     x: usize,
 ) -> usize
-    requires { ⌜ Fits (now words) at k x (blockBoundaries (not split) m carry x) ⌝ }
+    requires { ⌜ BoundaryRoom (now words) at k x (blockBoundaries (not split) m carry x) ⌝ }
     ensures { λ r. ⌜ Put (now (words .entry)) (now (words .exit)) at k r (blockBoundaries (not split) m carry x) ⌝ }
 {
     if split {
@@ -326,7 +326,7 @@ fn block_boundaries(
 
 // Writes the places of the set digits of e, lowest first: two at each turn, which takes less time than one.
 fn edges(words: &mut [u32], at: usize, k: usize, e: u64, x: usize) -> usize
-    requires { ⌜ Fits (now words) at k x (places 64 e x) ⌝ }
+    requires { ⌜ BoundaryRoom (now words) at k x (places 64 e x) ⌝ }
     ensures { λ r. ⌜ Put (now (words .entry)) (now (words .exit)) at k r (places 64 e x) ⌝ }
 {
     let mut e = e;
@@ -344,7 +344,7 @@ fn edges(words: &mut [u32], at: usize, k: usize, e: u64, x: usize) -> usize
 
 // As edges does, for runs of one cell each: a start and an end for each set digit.
 fn singles(words: &mut [u32], at: usize, k: usize, m: u64, x: usize) -> usize
-    requires { ⌜ Fits (now words) at k x (alone (places 64 m x)) ⌝ }
+    requires { ⌜ BoundaryRoom (now words) at k x (alone (places 64 m x)) ⌝ }
     ensures { λ r. ⌜ Put (now (words .entry)) (now (words .exit)) at k r (alone (places 64 m x)) ⌝ }
 {
     let mut m = m;
@@ -362,7 +362,7 @@ fn singles(words: &mut [u32], at: usize, k: usize, m: u64, x: usize) -> usize
 // Writes the place of the lowest set digit of e as boundary k. Answers e without that digit.
 fn next_edge(words: &mut [u32], at: usize, k: usize, e: u64, x: usize) -> u64
     requires { ⌜ Next (now words) at k x e ⌝ }
-    ensures { λ r. ⌜ Step (now (words .entry)) (now (words .exit)) at k x e r ⌝ }
+    ensures { λ r. ⌜ Took (now (words .entry)) (now (words .exit)) at k x e r ⌝ }
 {
     edge(words, at, k, lowest(e, x));
     e & (e - 1)

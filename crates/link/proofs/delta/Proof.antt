@@ -1,6 +1,6 @@
 use mathlib.Core.Path.{_∙_}
 use Rattle.link.proofs.OffsetLaws.{half-fits, first-digit, digits-low, three-digits}
-use Rattle.link.proofs.StepLaws.{offset-held}
+use Rattle.link.proofs.MoveLaws.{offset-held}
 use borrow.Author.Needs.{needs}
 use Rattle.link.proofs.delta.Statement.{statement}
 use Rattle.link.proofs.delta.Tie as tie

@@ -6,7 +6,7 @@ use native.Mathlib.Omega.{arith}
 use borrow.Author.Needs.{needs}
 use Rattle.link.proofs.ShiftLaws.{byte-wide, byte-le}
 use Rattle.link.proofs.TurnLaws.{lines-kept}
-use Rattle.link.proofs.SideLaws.{Side, side-on, side-off, linked-none, linked-wide, linked-both, linked-one, linked-few}
+use Rattle.link.proofs.SideLaws.{Side, side-on, side-off, link-idle, link-widened, linked-both, linked-one, link-few}
 use Rattle.link.proofs.link.Statement.{statement}
 use Rattle.link.proofs.link.Tie as tie
 use Rattle.link.proofs.link.Reads as reads
@@ -15,7 +15,7 @@ use Rattle.link.proofs.sweep.Reads as sweep-reads
 use Rattle.link.proofs.sweep_shift.Reads as sweep-shift-reads
 
 returns : tie.Need-returns
-returns c = let s = c .before .before in linked-none (s .pre) (s .args .prev) (s .args .adj) (s .args .next) (c .if1 .taken)
+returns c = let s = c .before .before in link-idle (s .pre) (s .args .prev) (s .args .adj) (s .args .next) (c .if1 .taken)
 
 cast-sweep : tie.Need-cast-sweep
 cast-sweep c = search needs
@@ -36,7 +36,7 @@ same-length c = search needs
 returns-2 : tie.Need-returns-2
 returns-2 c =
     let s = c .before .before .before .before .before .before .before in
-    linked-wide (s .pre) (s .args .prev) (s .args .adj) (s .args .next) (c .before .before .before .before .if2 .taken) (byte-wide (s .args .next)) (byte-wide (s .args .prev)) (c .before .before .sweep .ensures)
+    link-widened (s .pre) (s .args .prev) (s .args .adj) (s .args .next) (c .before .before .before .before .if2 .taken) (byte-wide (s .args .next)) (byte-wide (s .args .prev)) (c .before .before .sweep .ensures)
 
 sweep-shift-requires : tie.Need-sweep-shift-requires
 sweep-shift-requires c κs = search needs
@@ -71,7 +71,7 @@ returns-3 c =
 add-joins-2 : tie.Need-add-joins-2
 add-joins-2 c =
     let s = c .before .before .before .before .before .before .before .before .before .before in
-    record { fits = omega (arith, linked-few (s .pre) (s .args .prev) (s .args .adj) (s .args .next) (returns-3 c)) }
+    record { fits = omega (arith, link-few (s .pre) (s .args .prev) (s .args .adj) (s .args .next) (returns-3 c)) }
 
 same-length-2 : tie.Need-same-length-2
 same-length-2 c = returns-3 c .kept .long

@@ -1,6 +1,6 @@
 use Prim.Native.Nat.{_+_}
 use native.Mathlib.Omega.{arith}
-use Rattle.link.proofs.LinkedLaws.{lent-lines, lent-back}
+use Rattle.link.proofs.PartLaws.{lent-lines, lent-back}
 use borrow.Author.Needs.{needs}
 use Rattle.link.proofs.link_lines.Statement.{statement}
 use Rattle.link.proofs.link_lines.Tie as tie

@@ -7,8 +7,8 @@ use borrow.Author.Needs.{needs}
 use Rattle.groups.specs.Groups.{Edge, gather}
 use Rattle.frame.specs.Words.{lineStart, storedRun}
 use Rattle.frame.specs.Touches.{touchesBy}
-use Rattle.link.specs.Lines.{leadingOf, Linked, runsTo}
-use Rattle.link.proofs.LinkedLaws.{linked-none, linked-ready, linked-long}
+use Rattle.link.specs.Lines.{leadingOf, UnitedIn, runsTo}
+use Rattle.link.proofs.PartLaws.{in-none, in-ready, in-long}
 use Rattle.link.proofs.LineTouchLaws.{no-touches, touches-more, touches-all, joins-most}
 use Rattle.link.proofs.union_line.Statement.{statement}
 use Rattle.link.proofs.union_line.Tie as tie
@@ -19,7 +19,7 @@ use Rattle.link.proofs.coords.Reads as coords-reads
 use Rattle.link.proofs.union_by.Reads as union-by-reads
 
 abbrev Inv-loop : tie.InvT-loop
-Inv-loop words₀ lines dims n structure line c count joins₀ k₀ words joins k = (k ≤ count) × Linked lines words₀ words (runsTo words₀ line) (gather (touchesBy (leadingOf n dims) structure (lineStart words₀) (storedRun lines words₀) line) 0 k) joins
+Inv-loop words₀ lines dims n structure line c count joins₀ k₀ words joins k = (k ≤ count) × UnitedIn lines words₀ words (runsTo words₀ line) (gather (touchesBy (leadingOf n dims) structure (lineStart words₀) (storedRun lines words₀) line) 0 k) joins
 
 abbrev μ-loop : tie.MeasureT-loop
 μ-loop words₀ lines dims n structure line c count joins₀ k₀ words joins k = count - k
@@ -42,9 +42,9 @@ slice-read-if1-2 c = let s = c .before .before .before .before in omega (arith, 
 returns : tie.Need-returns Inv-loop μ-loop
 returns c =
     let s = c .before .before .before .before .before in
-    subst (λ (es : List Edge). Linked (s .args .lines) (s .args .words .now) (s .args .words .now) (runsTo (s .args .words .now) (s .args .line)) es 0)
+    subst (λ (es : List Edge). UnitedIn (s .args .lines) (s .args .words .now) (s .args .words .now) (runsTo (s .args .words .now) (s .args .line)) es 0)
     (sym (no-touches (s .args .n) (s .args .dims) (s .args .lines) (s .args .structure .now) (s .args .words .now) (s .args .line) (s .pre) (search needs) (c .if1 .taken ∙ ap (λ (x : ℕ). lineStart (s .args .words .now) x) (add-one (s .args .line)))))
-    (linked-none (s .args .lines) (s .args .words .now) (s .args .line) (s .pre .lines))
+    (in-none (s .args .lines) (s .args .words .now) (s .args .line) (s .pre .lines))
 
 coords-requires : tie.Need-coords-requires Inv-loop μ-loop
 coords-requires c κs = let s = c .before .before .before .before .before in (omega (arith, s .pre .lines .within, s .pre .leading .product), omega (arith, s .pre .leading .small, s .pre .leading .product))
@@ -53,12 +53,12 @@ backward-count-requires : tie.Need-backward-count-requires Inv-loop μ-loop
 backward-count-requires c κs = c .before .before .before .before .before .before .pre .leading .few
 
 loop-holds : tie.Need-loop-holds Inv-loop μ-loop
-loop-holds c = let s = c .before .before .before .before .before .before .before in (omega arith, (unfold gather in (linked-none (s .args .lines) (s .args .words .now) (s .args .line) (s .pre .lines))))
+loop-holds c = let s = c .before .before .before .before .before .before .before in (omega arith, (unfold gather in (in-none (s .args .lines) (s .args .words .now) (s .args .line) (s .pre .lines))))
 
 union-by-requires : tie.Need-union-by-requires Inv-loop μ-loop
 union-by-requires c κs =
     let s = c .before .before .before .before .before .before .before .before .before .before in
-    (record { leading = s .pre .leading; bytes = s .pre .bytes; lines = linked-ready (s .args .lines) (s .args .words .now) (s .args .line) (s .pre .lines) (c .before .before .loop .words) _ (c .before .before .loop .joins) (c .before .before .loop .inv .1) }, c .before .before .before .before .coords .ensures, omega (arith, c .before .before .before .backward-count .ensures, c .before .loop-test .taken))
+    (record { leading = s .pre .leading; bytes = s .pre .bytes; lines = in-ready (s .args .lines) (s .args .words .now) (s .args .line) (s .pre .lines) (c .before .before .loop .words) _ (c .before .before .loop .joins) (c .before .before .loop .inv .1) }, c .before .before .before .before .coords .ensures, omega (arith, c .before .before .before .backward-count .ensures, c .before .loop-test .taken))
 
 add-joins : tie.Need-add-joins Inv-loop μ-loop
 add-joins c =
@@ -80,13 +80,13 @@ loop-again c =
     (search needs, touches-more (s .args .n) (s .args .dims) (s .args .lines) (s .args .structure .now) (s .args .words .now) (s .args .line) (s .pre) (search needs) (l .words) (l .k) (l .joins) (l .inv .1) (c .before .before .union-by .last .0) (c .before .before .union-by .result) (c .before .before .union-by .ensures))
 
 same-length : tie.Need-same-length Inv-loop μ-loop
-same-length c = let s = c .before .before .before .before .before .before .before .before .before in linked-long (s .args .lines) (s .args .words .now) (c .before .loop .words) _ _ (c .before .loop .joins) (c .before .loop .inv .1) (omega (arith, s .pre .lines .room))
+same-length c = let s = c .before .before .before .before .before .before .before .before .before in in-long (s .args .lines) (s .args .words .now) (c .before .loop .words) _ _ (c .before .loop .joins) (c .before .loop .inv .1) (omega (arith, s .pre .lines .room))
 
 returns-2 : tie.Need-returns-2 Inv-loop μ-loop
 returns-2 c =
     let s = c .before .before .before .before .before .before .before .before .before in
     let l = c .before .loop in
-    subst (λ (es : List Edge). Linked (s .args .lines) (s .args .words .now) (l .words) (runsTo (s .args .words .now) (s .args .line)) es (l .joins)) (ap (gather (touchesBy (leadingOf (s .args .n) (s .args .dims)) (s .args .structure .now) (lineStart (s .args .words .now)) (storedRun (s .args .lines) (s .args .words .now)) (s .args .line)) 0) (let e : l .k ≡ 3 ^ s .args .n / 2 = omega (arith, l .inv .0, c .loop-test .left, c .before .before .backward-count .ensures) in e) ∙ touches-all (s .args .n) (s .args .dims) (s .args .lines) (s .args .structure .now) (s .args .words .now) (s .args .line) (s .pre) (search needs)) (l .inv .1)
+    subst (λ (es : List Edge). UnitedIn (s .args .lines) (s .args .words .now) (l .words) (runsTo (s .args .words .now) (s .args .line)) es (l .joins)) (ap (gather (touchesBy (leadingOf (s .args .n) (s .args .dims)) (s .args .structure .now) (lineStart (s .args .words .now)) (storedRun (s .args .lines) (s .args .words .now)) (s .args .line)) 0) (let e : l .k ≡ 3 ^ s .args .n / 2 = omega (arith, l .inv .0, c .loop-test .left, c .before .before .backward-count .ensures) in e) ∙ touches-all (s .args .n) (s .args .dims) (s .args .lines) (s .args .structure .now) (s .args .words .now) (s .args .line) (s .pre) (search needs)) (l .inv .1)
 
 pub union-line-spec : {M : Type 1} → statement M
 union-line-spec =

@@ -2,7 +2,7 @@
 -- Assumes nothing.
 use mathlib.Core.Path.{sym, subst}
 use denote.Ref.{now}
-use Rattle.runs.specs.Boundaries.{Fits, Put}
+use Rattle.runs.specs.Boundaries.{BoundaryRoom, Put}
 use Rattle.runs.proofs.BlockLaws.{block-alone, block-edges}
 use borrow.Author.Needs.{needs}
 use Rattle.runs.proofs.block_boundaries.Statement.{statement}
@@ -11,12 +11,12 @@ use Rattle.runs.proofs.block_boundaries.Tie as tie
 singles-requires : tie.Need-singles-requires
 singles-requires c κs =
     let a = c .before .before .before .args in
-    subst (Fits (now (a .words)) (a .at) (a .k) (a .x)) (block-alone (a .split) (a .m) (a .carry) (a .x) (c .before .if1 .taken)) (c .before .before .before .pre)
+    subst (BoundaryRoom (now (a .words)) (a .at) (a .k) (a .x)) (block-alone (a .split) (a .m) (a .carry) (a .x) (c .before .if1 .taken)) (c .before .before .before .pre)
 
 edges-requires : tie.Need-edges-requires
 edges-requires c κs =
     let a = c .before .before .before .args in
-    subst (Fits (now (a .words)) (a .at) (a .k) (a .x)) (block-edges (a .split) (a .m) (a .carry) (a .x) (c .before .if1 .left)) (c .before .before .before .pre)
+    subst (BoundaryRoom (now (a .words)) (a .at) (a .k) (a .x)) (block-edges (a .split) (a .m) (a .carry) (a .x) (c .before .if1 .left)) (c .before .before .before .pre)
 
 same-length : tie.Need-same-length
 same-length c = search needs

@@ -5,7 +5,7 @@ use mathlib.Core.Path.{_≡_, refl}
 use native.Mathlib.Omega.{arith}
 use denote.Ref.{now}
 use Rattle.runs.specs.Boundaries.{places}
-use Rattle.runs.proofs.BoundaryLaws.{Left, left-all, left-same, left-step, left-next, left-none}
+use Rattle.runs.proofs.BoundaryLaws.{Left, left-all, left-same, left-took, left-next, left-none}
 use Rattle.runs.proofs.MaskLaws.{no-place}
 use Rattle.runs.proofs.edges.Statement.{statement}
 use Rattle.runs.proofs.edges.Tie as tie
@@ -23,7 +23,7 @@ one : (c : tie.After-next-edge Inv-loop μ-loop) →
     Left (now (a .words)) (a .at) (a .k) (places 64 (a .e) (a .x)) (c .next-edge .last .0) (t .before .loop .k + 1) (places 64 (c .next-edge .result) (a .x))
 one c =
     let t = c .before .before in
-    left-step (t .before .before .before .args .x) (t .before .loop .e) (c .next-edge .result) (t .before .loop .inv) (c .next-edge .ensures)
+    left-took (t .before .before .before .args .x) (t .before .loop .e) (c .next-edge .result) (t .before .loop .inv) (c .next-edge .ensures)
 
 two : (c : tie.After-next-edge2 Inv-loop μ-loop) →
     let t = c .before .before .before .before .before .before .before in
@@ -33,7 +33,7 @@ two c =
     let o = c .before .before .before .before .before in
     let t = o .before .before in
     let k : t .before .loop .k + 1 + 1 ≡ t .before .loop .k + 2 = omega arith in
-    left-same refl k refl (left-step (t .before .before .before .args .x) (o .next-edge .result) (c .next-edge2 .result) (one o) (c .next-edge2 .ensures))
+    left-same refl k refl (left-took (t .before .before .before .args .x) (o .next-edge .result) (c .next-edge2 .result) (one o) (c .next-edge2 .ensures))
 
 loop-holds : tie.Need-loop-holds Inv-loop μ-loop
 loop-holds c = left-all _ _ _ _

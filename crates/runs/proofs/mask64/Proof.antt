@@ -25,14 +25,14 @@ loop-holds : tie.Need-loop-holds Inv-loop μ-loop
 unfolding maskOf
 loop-holds c = (omega arith, refl, λ l h. refl)
 
-join-requires : tie.Need-join-requires Inv-loop μ-loop
-join-requires c κs = record { flags = map nz (c .before .before .before .args .b); weighed = c .before .before .weigh .ensures; inside = c .loop-test .taken; eight = c .before .loop .inv .1 }
+mask8-requires : tie.Need-mask8-requires Inv-loop μ-loop
+mask8-requires c κs = record { flags = map nz (c .before .before .before .args .b); weighed = c .before .before .weigh .ensures; inside = c .loop-test .taken; eight = c .before .loop .inv .1 }
 
 cast-m : tie.Need-cast-m Inv-loop μ-loop
 cast-m c =
     let o = c .before .before in
     let l = map nz (o .before .before .args .b) in
-    let e = c .join .ensures l (o .before .weigh .ensures) in
+    let e = c .mask8 .ensures l (o .before .weigh .ensures) in
     omega (arith, mask-lt 8 (drop (o .loop .j) l))
 
 shl-m : tie.Need-shl-m Inv-loop μ-loop
@@ -47,7 +47,7 @@ loop-less c = omega arith
 loop-again : tie.Need-loop-again Inv-loop μ-loop
 loop-again c =
     let o = c .before .before in
-    (omega arith, omega arith, λ l h. byte-turn l (o .loop .j) (o .loop .m) (c .join .result) (omega arith) (o .loop .inv .2 l h) (c .join .ensures l h))
+    (omega arith, omega arith, λ l h. byte-turn l (o .loop .j) (o .loop .m) (c .mask8 .result) (omega arith) (o .loop .inv .2 l h) (c .mask8 .ensures l h))
 
 returns : tie.Need-returns Inv-loop μ-loop
 returns c =
@@ -64,7 +64,7 @@ mask64-spec =
     μ-loop
     weigh-requires
     loop-holds
-    join-requires
+    mask8-requires
     cast-m
     shl-m
     add-j

@@ -17,10 +17,10 @@ use Rattle.groups.proofs.RepLaws.{Ends}
 use Rattle.frame.specs.Runs.{Run}
 use Rattle.frame.specs.Words.{startAt, endAt, parentAt, lineStart, parentOf, storedRun, NoParent}
 use Rattle.forest.specs.Forest.{rootOf, grouping}
-use Rattle.forest.specs.Unions.{parentIn, Parents, Kept, United}
+use Rattle.forest.specs.Unions.{parentIn, Parents, ParentsOnly, United}
 use Rattle.forest.proofs.UnitedLaws.{united-none, united-then}
 use Rattle.link.specs.Sweeps.{runIn, InOrder, TwoLines, linkPairs}
-use Rattle.link.specs.Lines.{LinesReady, Linked, pairsOf, runsTo}
+use Rattle.link.specs.Lines.{LinesReady, UnitedIn, pairsOf, runsTo}
 
 -- ---- the part
 
@@ -79,9 +79,9 @@ module _ (L : ℕ) (ws : List ℕ) (ℓ m : ℕ) (R : LinesReady L ws ℓ) (h : 
   lent-lines = rw (tail-mid (L + 1) ws, add-one ℓ, add-one m) (part-lines L ws ℓ R m h)
 
   pub lent-back : (prev adj next : Bool) (p : List ℕ) (t : ℕ) → United (midOf (L + 1) (length ws - (L + 1)) ws) p (getD ws (ℓ + 1) 0) (linkPairs prev adj next (runIn (midOf (L + 1) (length ws - (L + 1)) ws)) (getD ws ℓ 0) (getD ws (ℓ + 1) 0) (getD ws m 0) (getD ws (m + 1) 0)) t
-      → Linked L ws (putMid (L + 1) (length ws - (L + 1)) ws p) (runsTo ws ℓ) (pairsOf L ws ℓ m prev adj next) t
+      → UnitedIn L ws (putMid (L + 1) (length ws - (L + 1)) ws p) (runsTo ws ℓ) (pairsOf L ws ℓ m prev adj next) t
   lent-back prev adj next p t U =
-      subst (λ (vs : List ℕ). Linked L ws vs (runsTo ws ℓ) (pairsOf L ws ℓ m prev adj next) t) (sym (tail-put (L + 1) ws p (omega (arith, R .room))))
+      subst (λ (vs : List ℕ). UnitedIn L ws vs (runsTo ws ℓ) (pairsOf L ws ℓ m prev adj next) t) (sym (tail-put (L + 1) ws p (omega (arith, R .room))))
       (record {
         starts = take-at (take (L + 1) ws) p (L + 1) front;
         runs = rw (drop-at (take (L + 1) ws) p (L + 1) front) there;
@@ -98,62 +98,62 @@ module _ (L : ℕ) (ws : List ℕ) (ℓ m : ℕ) (R : LinesReady L ws ℓ) (h : 
 
 -- ---- unions in the part, and what they leave
 
-module _ (L : ℕ) (ws ws′ : List ℕ) (n : ℕ) (es : List Edge) (t : ℕ) (E : Linked L ws ws′ n es t) where
-  abbrev kept : Kept (drop (L + 1) ws) (drop (L + 1) ws′) n
+module _ (L : ℕ) (ws ws′ : List ℕ) (n : ℕ) (es : List Edge) (t : ℕ) (E : UnitedIn L ws ws′ n es t) where
+  abbrev kept : ParentsOnly (drop (L + 1) ws) (drop (L + 1) ws′) n
   kept = E .runs .kept
 
-  pub linked-start : (ℓ : ℕ) → ℓ ≤ L → lineStart ws′ ℓ ≡ lineStart ws ℓ
-  linked-start ℓ h = sym (getD-take (L + 1) ws′ ℓ 0 (omega arith)) ∙ ap (λ (l : List ℕ). getD l ℓ 0) (E .starts) ∙ getD-take (L + 1) ws ℓ 0 (omega arith)
+  pub in-start : (ℓ : ℕ) → ℓ ≤ L → lineStart ws′ ℓ ≡ lineStart ws ℓ
+  in-start ℓ h = sym (getD-take (L + 1) ws′ ℓ 0 (omega arith)) ∙ ap (λ (l : List ℕ). getD l ℓ 0) (E .starts) ∙ getD-take (L + 1) ws ℓ 0 (omega arith)
 
-  pub linked-others : (j : ℕ) → NoParent L n j → getD ws′ j 0 ≡ getD ws j 0
-  linked-others j h = go (ltb j (L + 1)) refl
+  pub in-others : (j : ℕ) → NoParent L n j → getD ws′ j 0 ≡ getD ws j 0
+  in-others j h = go (ltb j (L + 1)) refl
     where
       go : (b : Bool) → ltb j (L + 1) ≡ b → getD ws′ j 0 ≡ getD ws j 0
-      go true e = linked-start j (let l = ltb-true j (L + 1) e in omega arith)
+      go true e = in-start j (let l = ltb-true j (L + 1) e in omega arith)
       go false e =
           let l = ltb-false j (L + 1) e in
           let is-j : L + 1 + (j - (L + 1)) ≡ j = omega arith in
           let k : getD (drop (L + 1) ws′) (j - (L + 1)) 0 ≡ getD (drop (L + 1) ws) (j - (L + 1)) 0 = kept .others (j - (L + 1)) (λ r b q. h r b (omega arith)) in
           subst (λ (x : ℕ). getD ws′ x 0 ≡ getD ws x 0) is-j (sym (part-word L ws′ (j - (L + 1))) ∙ k ∙ part-word L ws (j - (L + 1)))
 
-  pub linked-parents : (r : ℕ) → r < n → parentOf L ws′ r ≤ r
-  linked-parents r h = subst (λ (f : ℕ → ℕ). f r ≤ r) (part-parents L ws′) (kept .low r h)
+  pub in-parents : (r : ℕ) → r < n → parentOf L ws′ r ≤ r
+  in-parents r h = subst (λ (f : ℕ → ℕ). f r ≤ r) (part-parents L ws′) (kept .low r h)
 
-  pub linked-grouped : (r : ℕ) → r < n → rootOf (parentOf L ws′) r ≡ rep (visit es (grouping (parentOf L ws) n)) r
-  linked-grouped r h = subst (λ (f : ℕ → ℕ). rootOf f r ≡ rep (visit es (grouping (parentOf L ws) n)) r) (part-parents L ws′) (subst (λ (f : ℕ → ℕ). rootOf (parentIn (drop (L + 1) ws′)) r ≡ rep (visit es (grouping f n)) r) (part-parents L ws) (E .runs .grouped r h))
+  pub in-grouped : (r : ℕ) → r < n → rootOf (parentOf L ws′) r ≡ rep (visit es (grouping (parentOf L ws) n)) r
+  in-grouped r h = subst (λ (f : ℕ → ℕ). rootOf f r ≡ rep (visit es (grouping (parentOf L ws) n)) r) (part-parents L ws′) (subst (λ (f : ℕ → ℕ). rootOf (parentIn (drop (L + 1) ws′)) r ≡ rep (visit es (grouping f n)) r) (part-parents L ws) (E .runs .grouped r h))
 
-  pub linked-counted : t + joins (grouping (parentOf L ws) n) ≡ joins (visit es (grouping (parentOf L ws) n))
-  linked-counted = subst (λ (f : ℕ → ℕ). t + joins (grouping f n) ≡ joins (visit es (grouping f n))) (part-parents L ws) (E .runs .counted)
+  pub in-counted : t + joins (grouping (parentOf L ws) n) ≡ joins (visit es (grouping (parentOf L ws) n))
+  in-counted = subst (λ (f : ℕ → ℕ). t + joins (grouping f n) ≡ joins (visit es (grouping f n))) (part-parents L ws) (E .runs .counted)
 
   -- starts and ends stand
-  pub linked-runs : storedRun L ws′ ≡ storedRun L ws
-  linked-runs = fun-ext (λ r. ap₂ (λ (s : ℕ) (e : ℕ). record { start = s; end = e }) (linked-others (L + 1 + startAt r) (λ x h e. omega arith)) (linked-others (L + 1 + endAt r) (λ x h e. omega arith)))
+  pub in-runs : storedRun L ws′ ≡ storedRun L ws
+  in-runs = fun-ext (λ r. ap₂ (λ (s : ℕ) (e : ℕ). record { start = s; end = e }) (in-others (L + 1 + startAt r) (λ x h e. omega arith)) (in-others (L + 1 + endAt r) (λ x h e. omega arith)))
 
   module _ (big : L + 1 ≤ length ws) where
-    pub linked-long : length ws′ ≡ length ws
-    linked-long = omega (arith, big, ap length (E .starts), kept .long, length-take (L + 1) ws, length-take (L + 1) ws′, length-drop (L + 1) ws, length-drop (L + 1) ws′)
+    pub in-long : length ws′ ≡ length ws
+    in-long = omega (arith, big, ap length (E .starts), kept .long, length-take (L + 1) ws, length-take (L + 1) ws′, length-drop (L + 1) ws, length-drop (L + 1) ws′)
 
 -- ---- one after another
 
 module _ (L : ℕ) (ws : List ℕ) (ℓ : ℕ) (R : LinesReady L ws ℓ) where
-  pub linked-none : Linked L ws ws (runsTo ws ℓ) [] 0
-  linked-none = record { starts = refl; runs = united-none (drop (L + 1) ws) (runsTo ws ℓ) (part-ready L ws ℓ R) }
+  pub in-none : UnitedIn L ws ws (runsTo ws ℓ) [] 0
+  in-none = record { starts = refl; runs = united-none (drop (L + 1) ws) (runsTo ws ℓ) (part-ready L ws ℓ R) }
 
   -- after unions the lines are as ready as before
-  module _ (ws′ : List ℕ) (es : List Edge) (t : ℕ) (E : Linked L ws ws′ (runsTo ws ℓ) es t) where
+  module _ (ws′ : List ℕ) (es : List Edge) (t : ℕ) (E : UnitedIn L ws ws′ (runsTo ws ℓ) es t) where
     same-start : (m : ℕ) → m ≤ suc ℓ → lineStart ws′ m ≡ lineStart ws m
-    same-start m h = linked-start L ws ws′ (runsTo ws ℓ) es t E m (let w = R .within in omega arith)
+    same-start m h = in-start L ws ws′ (runsTo ws ℓ) es t E m (let w = R .within in omega arith)
 
-    pub linked-ready : LinesReady L ws′ ℓ
-    linked-ready = record {
+    pub in-ready : LinesReady L ws′ ℓ
+    in-ready = record {
       within = R .within;
-      room = rw (same-start (suc ℓ) (le-refl (suc ℓ)), linked-long L ws ws′ (runsTo ws ℓ) es t E (omega (arith, R .room))) (R .room);
-      sorted = λ m h. rw (same-start m (omega arith), same-start (suc m) (omega arith), linked-runs L ws ws′ (runsTo ws ℓ) es t E) (R .sorted m h);
-      parents = λ r h. linked-parents L ws ws′ (runsTo ws ℓ) es t E r (subst (λ (x : ℕ). r < x) (same-start (suc ℓ) (le-refl (suc ℓ))) h);
+      room = rw (same-start (suc ℓ) (le-refl (suc ℓ)), in-long L ws ws′ (runsTo ws ℓ) es t E (omega (arith, R .room))) (R .room);
+      sorted = λ m h. rw (same-start m (omega arith), same-start (suc m) (omega arith), in-runs L ws ws′ (runsTo ws ℓ) es t E) (R .sorted m h);
+      parents = λ r h. in-parents L ws ws′ (runsTo ws ℓ) es t E r (subst (λ (x : ℕ). r < x) (same-start (suc ℓ) (le-refl (suc ℓ))) h);
     }
 
-    pub linked-then : Ends (λ r. r < runsTo ws ℓ) es → (vs : List ℕ) (fs : List Edge) (u : ℕ) → Linked L ws′ vs (runsTo ws′ ℓ) fs u → Linked L ws vs (runsTo ws ℓ) (es ++ fs) (t + u)
-    linked-then w vs fs u F = record {
+    pub in-then : Ends (λ r. r < runsTo ws ℓ) es → (vs : List ℕ) (fs : List Edge) (u : ℕ) → UnitedIn L ws′ vs (runsTo ws′ ℓ) fs u → UnitedIn L ws vs (runsTo ws ℓ) (es ++ fs) (t + u)
+    in-then w vs fs u F = record {
       starts = F .starts ∙ E .starts;
       runs = united-then (drop (L + 1) ws) (runsTo ws ℓ) (part-ready L ws ℓ R) (drop (L + 1) ws′) es t w (E .runs) (drop (L + 1) vs) fs u
           (subst (λ (x : ℕ). United (drop (L + 1) ws′) (drop (L + 1) vs) x fs u) (same-start (suc ℓ) (le-refl (suc ℓ))) (F .runs));

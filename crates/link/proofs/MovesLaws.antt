@@ -6,12 +6,12 @@ use Prim.Native.Nat.{ℕ, _/_, _%_, _^_, _-_, _+_, _≤_, _<_}
 use lib.IntN.{ℤ, pos}
 use lib.ListN.{length, getD}
 use Rattle.frame.specs.Shape.{size}
-use Rattle.link.specs.Offsets.{digit, Step}
-use Rattle.link.specs.Lines.{Leading, threeDigits, signedCoords, Steps}
+use Rattle.link.specs.Offsets.{digit, Move}
+use Rattle.link.specs.Lines.{ThreeDims, threeDigits, signedCoords, Moves}
 use Rattle.link.proofs.OffsetLaws.{digits-low, three-digits}
 use Rattle.link.proofs.CoordinateLaws.{three-entries, coords-are, first-below, middle-below, last-below, first-small, middle-small, last-small}
 
-module _ (n : ℕ) (dims : List ℕ) (L ℓ k : ℕ) (D : Leading n dims L) (three : length dims ≡ 3) (within : ℓ < L) (code : k < 3 ^ n) (c o : List ℤ) (is-c : c ≡ signedCoords dims ℓ) (three-o : length o ≡ 3) (is-o : map digit o ≡ threeDigits n k) where
+module _ (n : ℕ) (dims : List ℕ) (L ℓ k : ℕ) (D : ThreeDims n dims L) (three : length dims ≡ 3) (within : ℓ < L) (code : k < 3 ^ n) (c o : List ℤ) (is-c : c ≡ signedCoords dims ℓ) (three-o : length o ≡ 3) (is-o : map digit o ≡ threeDigits n k) where
   abbrev d : ℕ → ℕ
   d i = getD dims i 0
 
@@ -30,11 +30,11 @@ module _ (n : ℕ) (dims : List ℕ) (L ℓ k : ℕ) (D : Leading n dims L) (thr
   low : ((13 - 3 ^ n / 2 + k) / 9 ≤ 2) × ((13 - 3 ^ n / 2 + k) / 3 % 3 ≤ 2) × ((13 - 3 ^ n / 2 + k) % 3 ≤ 2)
   low = digits-low n k (3 ^ n / 2) (D .few) code refl
 
-  step : (x y : ℕ) (z w : ℤ) → z ≡ pos x → x < y → y < 4294967296 → digit w ≤ 2 → Step z w y
-  step x y z w e b m q = subst (λ (v : ℤ). Step v w y) (sym e) (record { coordinate = refl; below = b; small = m; offset = q })
+  step : (x y : ℕ) (z w : ℤ) → z ≡ pos x → x < y → y < 4294967296 → digit w ≤ 2 → Move z w y
+  step x y z w e b m q = subst (λ (v : ℤ). Move v w y) (sym e) (record { coordinate = refl; below = b; small = m; offset = q })
 
-  pub steps-ready : Steps dims c o
-  steps-ready = record {
+  pub moves-ready : Moves dims c o
+  moves-ready = record {
     first = step (ℓ / d 2 / d 1) (d 0) _ _ (ap (λ (l : List ℤ). getD l 0 (pos 0)) are) (first-below dims ℓ three h s) (first-small dims ℓ three h s) (subst (λ (x : ℕ). x ≤ 2) (sym (ap (λ (l : List ℕ). getD l 0 0) digits)) (low .0));
     second = step (ℓ / d 2 % d 1) (d 1) _ _ (ap (λ (l : List ℤ). getD l 1 (pos 0)) are) (middle-below dims ℓ three h s) (middle-small dims ℓ three h s) (subst (λ (x : ℕ). x ≤ 2) (sym (ap (λ (l : List ℕ). getD l 1 0) digits)) (low .1));
     third = step (ℓ % d 2) (d 2) _ _ (ap (λ (l : List ℤ). getD l 2 (pos 0)) are) (last-below dims ℓ three h s) (last-small dims ℓ three h s) (subst (λ (x : ℕ). x ≤ 2) (sym (ap (λ (l : List ℕ). getD l 2 0) digits)) (low .2));

@@ -1,18 +1,19 @@
 -- A coordinate moved by an offset, as i64 has it and as natural numbers do.
 -- Assumes nothing.
 use mathlib.Core.Path.{_≡_, sym, ap, ap₂, _∙_, subst}
-use mathlib.Core.Bool.{Bool, false, _&&_}
+use mathlib.Core.Bool.{Bool, true, false, _&&_}
 use mathlib.Core.List.{[], _∷_}
 use Prim.Native.Nat.{ℕ, zero, suc, _+_, _-_, _≤_, _<_}
 use native.Mathlib.Omega.{arith}
-use borrow.Author.Tests.{lt-ltb, le-ltb, le-leb}
+use borrow.Author.Tests.{lt-ltb, le-ltb, le-leb, ltb-true}
 use lib.Dec.{ltb, leb, T}
 use lib.IntN.{ℤ, pos, negsuc, natAbs, _+ℤ_}
 use lib.Signed.{ltZ, leZ, nonNeg}
 use mir.Syntax.{w64}
 use mir.Val.{SFits, Fits, ofZ, toZ}
 use mir.Facts.{toZ-ofZ}
-use Rattle.link.specs.Offsets.{digit, Step}
+use Rattle.groups.proofs.BoolLaws.{and-left}
+use Rattle.link.specs.Offsets.{digit, Move, movesIn, movedTo}
 use Rattle.link.proofs.SignedLaws.{sub-cases, small, near-fits, lt-left, off-back, nat-move, ge-zero}
 
 -- a signed number in a local: its bits, read back
@@ -59,7 +60,7 @@ within z d = leZ (pos 0) z && ltZ z (pos d)
 ltb-leb : (a d b : ℕ) → suc a ≡ b → ltb a d ≡ leb b d
 ltb-leb a d b e = ap (λ (x : ℕ). leb x d) e
 
-within-moves : (n d : ℕ) (o : ℤ) → digit o ≤ 2 → within (pos n +ℤ o) d ≡ ltb 0 (n + digit o) && leb (n + digit o) d
+within-moves : (n d : ℕ) (o : ℤ) → digit o ≤ 2 → within (pos n +ℤ o) d ≡ movesIn n (digit o) d
 unfolding within
 within-moves n d (pos b) k = ap (λ (t : Bool). t && ltb (n + b) d) (le-leb 0 (n + b) (omega arith)) ∙ ltb-leb (n + b) d (n + suc b) (omega arith) ∙ sym (ap (λ (t : Bool). t && leb (n + suc b) d) (lt-ltb 0 (n + suc b) (omega arith)))
 within-moves n d (negsuc zero) k =
@@ -68,30 +69,40 @@ within-moves n d (negsuc zero) k =
     (λ q. ap (λ (t : Bool). t && ltb (n - 1) d) (le-leb 0 (n - 1) (omega arith)) ∙ ltb-leb (n - 1) d (n + 0) (omega arith) ∙ sym (ap (λ (t : Bool). t && leb (n + 0) d) (lt-ltb 0 (n + 0) (omega arith))))
 within-moves n d (negsuc (suc b)) k = absurd (omega arith)
 
-module _ (c o : ℤ) (d : ℕ) (S : Step c o d) where
+module _ (c o : ℤ) (d : ℕ) (S : Move c o d) where
   low : natAbs c < 4294967296
   low = omega (arith, S .below, S .small)
 
-  pub step-fits : SFits w64 (held c +ℤ held o)
-  step-fits = move-fits c o (S .coordinate) low (S .offset)
+  pub inside-fits : SFits w64 (held c +ℤ held o)
+  inside-fits = move-fits c o (S .coordinate) low (S .offset)
 
-  pub step-inside : leZ (pos 0) (held (held c +ℤ held o)) && ltZ (held (held c +ℤ held o)) (toZ w64 d) ≡ ltb 0 (natAbs c + digit o) && leb (natAbs c + digit o) d
-  step-inside =
+  -- the test of the sum, as i64 has it
+  test-is : leZ (pos 0) (held (held c +ℤ held o)) && ltZ (held (held c +ℤ held o)) (toZ w64 d) ≡ movesIn (natAbs c) (digit o) d
+  test-is =
       ap₂ (λ (z : ℤ) (y : ℤ). leZ (pos 0) z && ltZ z y) (move-is c o (S .coordinate) low (S .offset)) (small d (omega (arith, S .small)))
       ∙ (unfold within in (within-moves (natAbs c) d o (S .offset)))
 
+  module _ (inside : leZ (pos 0) (held (held c +ℤ held o)) && ltZ (held (held c +ℤ held o)) (toZ w64 d) ≡ true) where
+    up : 0 < natAbs c + digit o
+    up = ltb-true 0 (natAbs c + digit o) (and-left _ (leb (natAbs c + digit o) d) (sym test-is ∙ inside))
+
+    pub inside-cast : T (nonNeg (held (held c +ℤ held o))) × Fits w64 (natAbs (held (held c +ℤ held o)))
+    inside-cast = move-cast c o (S .coordinate) low (S .offset) up
+
+    pub inside-moved : natAbs (held (held c +ℤ held o)) ≡ movedTo (natAbs c) (digit o) d
+    unfolding movedTo
+    inside-moved = rw (sym test-is ∙ inside) (move-nat c o (S .coordinate) low (S .offset) up)
+
+  pub outside-moved : leZ (pos 0) (held (held c +ℤ held o)) && ltZ (held (held c +ℤ held o)) (toZ w64 d) ≡ false → d ≡ movedTo (natAbs c) (digit o) d
+  unfolding movedTo
+  outside-moved e = rw (sym test-is ∙ e)
+
   -- read out of an array, it is the same
-  pub step-back : Step (held c) (held o) d
-  step-back = rw (coord-back c (S .coordinate) low, off-back o (S .offset)) S
+  pub move-back : Move (held c) (held o) d
+  move-back = rw (coord-back c (S .coordinate) low, off-back o (S .offset)) S
 
-  pub held-inside : ltb 0 (natAbs (held c) + digit (held o)) && leb (natAbs (held c) + digit (held o)) d ≡ ltb 0 (natAbs c + digit o) && leb (natAbs c + digit o) d
-  held-inside = rw (coord-back c (S .coordinate) low, off-back o (S .offset))
-
-  pub held-moved : natAbs (held c) + digit (held o) - 1 ≡ natAbs c + digit o - 1
-  held-moved = rw (coord-back c (S .coordinate) low, off-back o (S .offset))
-
-  pub step-move : (up : 0 < natAbs c + digit o) → (held c ≡ pos (natAbs (held c))) × (natAbs (held c) < 4294967296) × (digit (held o) ≤ 2) × (0 < natAbs (held c) + digit (held o))
-  step-move up = rw (coord-back c (S .coordinate) low, off-back o (S .offset)) (S .coordinate, low, S .offset, up)
+  pub moved-back : movedTo (natAbs (held c)) (digit (held o)) d ≡ movedTo (natAbs c) (digit o) d
+  moved-back = rw (coord-back c (S .coordinate) low, off-back o (S .offset))
 
 -- three parts of an offset, in an array
 pub offset-held : (a b c : ℤ) {x y z : ℕ} → digit a ≡ x → digit b ≡ y → digit c ≡ z → (x ≤ 2) × (y ≤ 2) × (z ≤ 2) → digit (held a) ∷ digit (held b) ∷ digit (held c) ∷ [] ≡ x ∷ y ∷ z ∷ []

@@ -1,4 +1,4 @@
--- `join` meets its contract: after each turn s is the mask of the first i bytes from j on.
+-- `mask8` meets its contract: after each turn s is the mask of the first i bytes from j on.
 -- Assumes nothing.
 use Prim.Native.Nat.{ℕ, _+_, _-_, _≤_}
 use mathlib.Core.Path.{_≡_, refl, ap, _∙_}
@@ -8,9 +8,9 @@ use native.Mathlib.Omega.{arith}
 use lib.ListN.{drop, getD}
 use lib.Pow.{pow-mono}
 use Rattle.runs.specs.Masks.{maskOf, Weighs}
-use Rattle.runs.proofs.MaskLaws.{mask-lt, join-turn}
-use Rattle.runs.proofs.join.Statement.{statement}
-use Rattle.runs.proofs.join.Tie as tie
+use Rattle.runs.proofs.MaskLaws.{mask-lt, eight-turn}
+use Rattle.runs.proofs.mask8.Statement.{statement}
+use Rattle.runs.proofs.mask8.Tie as tie
 
 abbrev Inv-loop : tie.InvT-loop
 Inv-loop j t s₀ i₀ s i = (i ≤ 8) × ((l : List Bool) → Weighs l t 64 → s ≡ maskOf i (drop j l))
@@ -27,7 +27,7 @@ more c l h =
     let v = c .before .loop in
     let a = c .before .before .args in
     let p = c .before .before .pre in
-    join-turn l (a .t1) (a .j) (v .i) (v .s) h (omega (arith, p .inside, p .eight)) (p .eight) (c .loop-test .taken) (v .inv .1 l h)
+    eight-turn l (a .t1) (a .j) (v .i) (v .s) h (omega (arith, p .inside, p .eight)) (p .eight) (c .loop-test .taken) (v .inv .1 l h)
 
 loop-holds : tie.Need-loop-holds Inv-loop μ-loop
 unfolding maskOf
@@ -62,8 +62,8 @@ returns c =
     let e : v .i ≡ 8 = omega arith in
     λ l h. v .inv .1 l h ∙ ap (λ (n : ℕ). maskOf n (drop (c .before .before .args .j) l)) e
 
-pub join-spec : {M : Type 1} → statement M
-join-spec =
+pub mask8-spec : {M : Type 1} → statement M
+mask8-spec =
     tie.close
     (tie.spec
     Inv-loop
