@@ -1,6 +1,8 @@
 // Extraction of a line's runs: this crate's beside the Rust's. First both on many random lines, word for word; then the time of each on
 // a frame of 1,000 by 1,000 at three densities. Build and run it by ./extract, which cuts the Rust's lines out of label.rs.
 #![allow(dead_code)]
+mod random;
+use random::Random;
 use std::time::Instant;
 
 // `trait Nz` to `type Run`, and `extract_scalar` to `extract_line`, as they stand in label.rs
@@ -46,16 +48,6 @@ kind!(f32, leaves_c_f32, |n| [0.0, -0.0][n as usize % 2], |n| [1.0, -2.5, f32::N
 
 unsafe extern "C" {
     fn leaves_c_scalar(line: *const u8, cells: usize, words: *mut u32, room: usize, at: usize) -> usize;
-}
-
-struct Random(u64);
-impl Random {
-    fn next(&mut self) -> u64 {
-        self.0 ^= self.0 << 13;
-        self.0 ^= self.0 >> 7;
-        self.0 ^= self.0 << 17;
-        self.0 >> 16
-    }
 }
 
 fn cells<T: Cell>(r: &mut Random, n: usize, percent: u64) -> Vec<T> {

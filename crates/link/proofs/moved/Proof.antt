@@ -1,9 +1,9 @@
-use Rattle.link.proofs.MoveLaws.{inside-fits, inside-cast, inside-moved, outside-moved}
+-- `moved` meets its contract, in natural numbers.
+-- Assumes nothing.
 use borrow.Author.Needs.{needs}
+use Rattle.link.proofs.MoveLaws.{inside-fits, inside-cast, inside-moved, outside-moved}
 use Rattle.link.proofs.moved.Statement.{statement}
 use Rattle.link.proofs.moved.Tie as tie
-use Rattle.link.proofs.moved.Reads as reads
-use Rattle.link.proofs.moved.Lts as lts
 
 add-v : tie.Need-add-v
 add-v c = inside-fits (c .args .c) (c .args .o) (c .args .d) (c .pre)

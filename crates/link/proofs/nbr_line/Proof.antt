@@ -1,11 +1,10 @@
+-- `nbr_line` meets its contract: what the three moved coordinates say (NbrLineLaws).
+-- Assumes nothing.
+use borrow.Author.Needs.{needs}
 use Rattle.link.proofs.MoveLaws.{move-back}
 use Rattle.link.proofs.NbrLineLaws.{outside, fits-first, fits-row, fits-rows, fits-all, at-line}
-use borrow.Author.Needs.{needs}
 use Rattle.link.proofs.nbr_line.Statement.{statement}
 use Rattle.link.proofs.nbr_line.Tie as tie
-use Rattle.link.proofs.nbr_line.Reads as reads
-use Rattle.link.proofs.nbr_line.Lts as lts
-use Rattle.link.proofs.moved.Reads as moved-reads
 
 array-read-d0 : tie.Need-array-read-d0
 array-read-d0 c = search needs

@@ -1,9 +1,9 @@
-use Rattle.link.proofs.SignedLaws.{part-fits, part-digit}
+-- `part` meets its contract.
+-- Assumes nothing.
 use borrow.Author.Needs.{needs}
+use Rattle.link.proofs.SignedLaws.{part-fits, part-digit}
 use Rattle.link.proofs.part.Statement.{statement}
 use Rattle.link.proofs.part.Tie as tie
-use Rattle.link.proofs.part.Reads as reads
-use Rattle.link.proofs.part.Lts as lts
 
 cast-result : tie.Need-cast-result
 cast-result c = search needs

@@ -1,7 +1,10 @@
+-- `union_by` meets its contract: by an offset that is not used, or leads out of the frame, there is no touch.
+-- Assumes nothing.
 use mathlib.Core.Path.{sym, ap, _∙_, subst}
 use mathlib.Core.List.{List}
 use Prim.Native.Nat.{ℕ}
 use native.Mathlib.Omega.{arith}
+use borrow.Author.Needs.{needs}
 use denote.Ref.{now}
 use Rattle.groups.specs.Groups.{Edge}
 use Rattle.frame.specs.Structure.{on}
@@ -9,14 +12,8 @@ use Rattle.link.specs.Lines.{nbrOf, UnitedIn, runsTo}
 use Rattle.link.proofs.MovesLaws.{moves-ready}
 use Rattle.link.proofs.TouchByLaws.{by-earlier, by-pairs, by-none, by-unused}
 use Rattle.link.proofs.PartLaws.{in-none}
-use borrow.Author.Needs.{needs}
 use Rattle.link.proofs.union_by.Statement.{statement}
 use Rattle.link.proofs.union_by.Tie as tie
-use Rattle.link.proofs.union_by.Reads as reads
-use Rattle.link.proofs.union_by.Lts as lts
-use Rattle.link.proofs.delta.Reads as delta-reads
-use Rattle.link.proofs.link_lines.Reads as link-lines-reads
-use Rattle.link.proofs.nbr_line.Reads as nbr-line-reads
 
 mul-prev : tie.Need-mul-prev
 mul-prev c = search needs

@@ -1,3 +1,5 @@
+-- `union_line` meets its contract. The loop's invariant: the touches by the codes before k are united.
+-- Assumes nothing.
 use mathlib.Core.Path.{_≡_, sym, ap, _∙_, subst}
 use mathlib.Core.List.{List}
 use Prim.Native.Nat.{ℕ, _+_, _-_, _/_, _^_, _≤_}
@@ -12,11 +14,6 @@ use Rattle.link.proofs.PartLaws.{in-none, in-ready, in-long}
 use Rattle.link.proofs.LineTouchLaws.{no-touches, touches-more, touches-all, joins-most}
 use Rattle.link.proofs.union_line.Statement.{statement}
 use Rattle.link.proofs.union_line.Tie as tie
-use Rattle.link.proofs.union_line.Reads as reads
-use Rattle.link.proofs.union_line.Lts as lts
-use Rattle.link.proofs.backward_count.Reads as backward-count-reads
-use Rattle.link.proofs.coords.Reads as coords-reads
-use Rattle.link.proofs.union_by.Reads as union-by-reads
 
 abbrev Inv-loop : tie.InvT-loop
 Inv-loop words₀ lines dims n structure line c count joins₀ k₀ words joins k = (k ≤ count) × UnitedIn lines words₀ words (runsTo words₀ line) (gather (touchesBy (leadingOf n dims) structure (lineStart words₀) (storedRun lines words₀) line) 0 k) joins
