@@ -125,11 +125,11 @@ module _ (ds structure : List ℕ) (S : ℕ → ℕ) (R : ℕ → Run) where
         ends-all (λ r. r < S (a + n)) (touches ds structure S R a n)
         (λ e m. let k = touch-below a n (e .from) (e .to) h (touches-from a n (e .from) (e .to) m) in (k .0, omega arith))
 
--- where the runs of the first b lines are the same, so are their touches
-module _ (ds structure : List ℕ) (S Z : ℕ → ℕ) (R Q : ℕ → Run) (b : ℕ) (starts : (ℓ : ℕ) → ℓ ≤ b → S ℓ ≡ Z ℓ) (rise : (x y : ℕ) → x ≤ y → S x ≤ S y) (same : (r : ℕ) → r < S b → R r ≡ Q r) where
-  by-same : (ℓ k : ℕ) → b ≤ size ds → ℓ < b → touchesBy ds structure S R ℓ k ≡ touchesBy ds structure Z Q ℓ k
+-- where the runs of line ℓ and of the lines before it are the same, so are its touches by each code
+module _ (ds structure : List ℕ) (S Z : ℕ → ℕ) (R Q : ℕ → Run) (ℓ k : ℕ) (within : ℓ < size ds) (starts : (m : ℕ) → m ≤ suc ℓ → S m ≡ Z m) (same : (m r : ℕ) → m ≤ ℓ → S m ≤ r → r < S m + (S (suc m) - S m) → R r ≡ Q r) where
+  pub by-same : touchesBy ds structure S R ℓ k ≡ touchesBy ds structure Z Q ℓ k
   unfolding touchesBy
-  by-same ℓ k hb hl = go (used structure (length ds) k) refl (hasNbr ds (offset (length ds) k) ℓ) refl
+  by-same = go (used structure (length ds) k) refl (hasNbr ds (offset (length ds) k) ℓ) refl
     where
       M : ℕ
       M = nbrLine ds (offset (length ds) k) ℓ
@@ -142,16 +142,19 @@ module _ (ds structure : List ℕ) (S Z : ℕ → ℕ) (R Q : ℕ → Run) (b : 
       go false eu t et = rw eu
       go true eu false et = rw (eu, et)
       go true eu true et =
-          let m : M < ℓ = nbr-earlier ds structure ℓ k (omega arith) eu et in
-          let q : T S R ≡ T S Q = pairs-same _ _ (S ℓ) (S (suc ℓ) - S ℓ) (S M) (S (suc M) - S M)
-          (λ r s lr ur ls us.
-          let hr : r < S b = omega (arith, rise ℓ (suc ℓ) (omega arith), rise (suc ℓ) b hl) in
-          let hs : s < S b = omega (arith, rise M (suc M) (omega arith), rise (suc M) b (omega arith)) in
-          rw (same r hr, same s hs)) in
-          rw (eu, et) (q ∙ rw (starts ℓ (omega arith), starts (suc ℓ) hl, starts M (omega arith), starts (suc M) (omega arith)))
+          let m : M < ℓ = nbr-earlier ds structure ℓ k within eu et in
+          let q : T S R ≡ T S Q = pairs-same _ _ (S ℓ) (S (suc ℓ) - S ℓ) (S M) (S (suc M) - S M) (λ r s lr ur ls us. rw (same ℓ r (omega arith) lr ur, same M s (omega arith) ls us)) in
+          rw (eu, et) (q ∙ rw (starts ℓ (omega arith), starts (suc ℓ) (omega arith), starts M (omega arith), starts (suc M) (omega arith)))
+
+-- where the runs of the first b lines are the same, so are their touches
+module _ (ds structure : List ℕ) (S Z : ℕ → ℕ) (R Q : ℕ → Run) (b : ℕ) (starts : (ℓ : ℕ) → ℓ ≤ b → S ℓ ≡ Z ℓ) (rise : (x y : ℕ) → x ≤ y → S x ≤ S y) (same : (r : ℕ) → r < S b → R r ≡ Q r) where
+  lines-same : (ℓ k : ℕ) → b ≤ size ds → ℓ < b → touchesBy ds structure S R ℓ k ≡ touchesBy ds structure Z Q ℓ k
+  lines-same ℓ k hb hl =
+      by-same ds structure S Z R Q ℓ k (omega arith) (λ m h. starts m (omega arith))
+      (λ m r h lo hi. same r (omega (arith, rise m (suc m) (omega arith), rise (suc m) b (omega arith))))
 
   pub touches-same : b ≤ size ds → (a n : ℕ) → a + n ≤ b → touches ds structure S R a n ≡ touches ds structure Z Q a n
   unfolding touches touchesOf
   touches-same hb a n h =
       gather-same (touchesOf ds structure S R) (touchesOf ds structure Z Q) a n
-      (λ ℓ l u. gather-same (touchesBy ds structure S R ℓ) (touchesBy ds structure Z Q ℓ) 0 (3 ^ length ds) (λ k z v. by-same ℓ k hb (omega arith)))
+      (λ ℓ l u. gather-same (touchesBy ds structure S R ℓ) (touchesBy ds structure Z Q ℓ) 0 (3 ^ length ds) (λ k z v. lines-same ℓ k hb (omega arith)))

@@ -8,7 +8,7 @@ use native.Mathlib.Nat.{le-refl, zero-add}
 use native.Mathlib.Numerals.{add-one}
 use native.Mathlib.Omega.{arith}
 use borrow.Author.Tests.{le-ltb}
-use lib.ListN.{length, drop}
+use lib.ListN.{length}
 use Rattle.groups.specs.Groups.{Edge, gather, pairs}
 use Rattle.groups.proofs.RepLaws.{Ends, mem-ends, ends-all}
 use Rattle.groups.proofs.GatherLaws.{gather-split, gather-snoc, gather-from, gather-none, pairs-ends}
@@ -18,11 +18,9 @@ use Rattle.frame.specs.Runs.{Run}
 use Rattle.frame.specs.Words.{lineStart, storedRun}
 use Rattle.frame.specs.Touches.{used, hasNbr, nbrLine, reaches, touchesBy, touchesOf}
 use Rattle.frame.proofs.StructureLaws.{backward-below}
-use Rattle.frame.proofs.TouchLaws.{nbr-earlier}
-use Rattle.forest.specs.Unions.{parentIn}
-use Rattle.forest.proofs.ForestLaws.{roots-others}
-use Rattle.forest.proofs.UnitedLaws.{united-groups}
+use Rattle.frame.proofs.TouchLaws.{nbr-earlier, by-same}
 use Rattle.link.specs.Lines.{leadingOf, LineReady, UnitedIn, touchesIn, runsTo}
+use Rattle.link.proofs.TurnLaws.{united-few}
 use Rattle.link.proofs.PartLaws.{part-ready, starts-rise, in-start, in-runs, in-then}
 use Rattle.link.proofs.TouchByLaws.{leading-length, leading-size}
 
@@ -71,21 +69,6 @@ module _ (n : ℕ) (dims : List ℕ) (L : ℕ) (structure ws : List ℕ) (ℓ : 
   upto-ends : (k : ℕ) → Ends (λ r. r < N) (gather by 0 k)
   upto-ends k = ends-all (λ r. r < N) (gather by 0 k) (λ e i. let f = gather-from by 0 k e i in mem-ends (λ r. r < N) (by (f .at)) (by-ends (f .at)) e (f .mem))
 
-  same-starts : (S Z : ℕ → ℕ) (Q : ℕ → Run) (k : ℕ) → ((m : ℕ) → m ≤ suc ℓ → S m ≡ Z m) → touchesBy (leadingOf n dims) structure S Q ℓ k ≡ touchesBy (leadingOf n dims) structure Z Q ℓ k
-  unfolding touchesBy
-  same-starts S Z Q k same = go (used structure (length ds) k) refl (hasNbr ds (offset (length ds) k) ℓ) refl
-    where
-      m : ℕ
-      m = nbrLine ds (offset (length ds) k) ℓ
-
-      go : (u : Bool) → used structure (length ds) k ≡ u → (t : Bool) → hasNbr ds (offset (length ds) k) ℓ ≡ t
-          → cond (used structure (length ds) k && hasNbr ds (offset (length ds) k) ℓ) (with-line S Q k m) [] ≡ cond (used structure (length ds) k && hasNbr ds (offset (length ds) k) ℓ) (with-line Z Q k m) []
-      go false eu t et = rw eu
-      go true eu false et = rw (eu, et)
-      go true eu true et =
-          let h : m < ℓ = nbr-earlier ds structure ℓ k below eu et in
-          rw (eu, et) (rw (same ℓ (omega arith), same (suc ℓ) (le-refl (suc ℓ)), same m (omega arith), same (suc m) (omega arith)))
-
   -- ---- none, where the line has no run
 
   pub no-touches : lineStart ws ℓ ≡ lineStart ws (suc ℓ) → touchesIn n dims L structure ws ℓ ≡ []
@@ -96,7 +79,10 @@ module _ (n : ℕ) (dims : List ℕ) (L : ℕ) (structure ws : List ℕ) (ℓ : 
 
   module _ (now : List ℕ) (k t : ℕ) (E : UnitedIn L ws now (runsTo ws ℓ) (gather (touchesBy (leadingOf n dims) structure (lineStart ws) (storedRun L ws) ℓ) 0 k) t) where
     same-by : touchesBy (leadingOf n dims) structure (lineStart now) (storedRun L now) ℓ k ≡ by k
-    same-by = ap (λ (q : ℕ → Run). touchesBy ds structure (lineStart now) q ℓ k) (in-runs L ws now N (gather by 0 k) t E) ∙ same-starts (lineStart now) (lineStart ws) (storedRun L ws) k (λ m h. in-start L ws now N (gather by 0 k) t E m (let w = R .lines .within in omega arith))
+    same-by =
+        by-same ds structure (lineStart now) (lineStart ws) (storedRun L now) (storedRun L ws) ℓ k below
+        (λ m h. in-start L ws now N (gather by 0 k) t E m (let w = R .lines .within in omega arith))
+        (λ m r h lo hi. ap (λ (run : ℕ → Run). run r) (in-runs L ws now N (gather by 0 k) t E))
 
     pub touches-more : (vs : List ℕ) (u : ℕ) → UnitedIn L now vs (runsTo now ℓ) (touchesBy (leadingOf n dims) structure (lineStart now) (storedRun L now) ℓ k) u → UnitedIn L ws vs (runsTo ws ℓ) (gather (touchesBy (leadingOf n dims) structure (lineStart ws) (storedRun L ws) ℓ) 0 (k + 1)) (t + u)
     touches-more vs u F =
@@ -108,10 +94,7 @@ module _ (n : ℕ) (dims : List ℕ) (L : ℕ) (structure ws : List ℕ) (ℓ : 
 
     -- how many joins there can be
     pub joins-most : t ≤ runsTo ws ℓ
-    joins-most =
-        let a = united-groups (drop (L + 1) ws) N (part-ready L ws ℓ (R .lines)) (drop (L + 1) now) (gather by 0 k) t (upto-ends k) (E .runs) in
-        let b = roots-others (parentIn (drop (L + 1) ws)) N in
-        omega arith
+    joins-most = united-few (part-ready L ws ℓ (R .lines)) (upto-ends k) (E .runs)
 
   -- ---- all of them: only the codes below the middle are backward
 

@@ -22,6 +22,14 @@ pub fn extract_line_u8(line: &[u8], split: bool, words: &mut [u32], at: usize) -
     requires { ⌜ Room (not split) (map nz (now line)) (now words) at ⌝ }
     ensures { λ r. ⌜ Extracted (not split) (map nz (now (line .entry))) (now (words .entry)) (now (words .exit)) at r ⌝ }
 {
+    extract_bytes(line, split, words, at)
+}
+
+// Bytes, as the Rust's; here with the left byte zero too.
+pub fn extract_bytes(line: &[u8], split: bool, words: &mut [u32], at: usize) -> usize
+    requires { ⌜ Room (not split) (map nz (now line)) (now words) at ⌝ }
+    ensures { λ r. ⌜ Extracted (not split) (map nz (now (line .entry))) (now (words .entry)) (now (words .exit)) at r ⌝ }
+{
     let n = line.len();
     let mut k: usize = 0;
     let mut carry: u64 = 0;
@@ -90,17 +98,8 @@ pub fn extract_line_f32(line: &[f32], split: bool, words: &mut [u32], at: usize)
     block_boundaries(words, at, k, m, carry, split, x) / 2
 }
 
-// ---- a line of bytes with the left byte nonzero, by two ways
+// ---- the plain form, for comparison: bytes with the left byte nonzero, by a look at each cell
 
-// By masks.
-pub fn extract_bytes(line: &[u8], words: &mut [u32], at: usize) -> usize
-    requires { ⌜ Room true (map nz (now line)) (now words) at ⌝ }
-    ensures { λ r. ⌜ Extracted true (map nz (now (line .entry))) (now (words .entry)) (now (words .exit)) at r ⌝ }
-{
-    extract_line_u8(line, false, words, at)
-}
-
-// By a look at each cell.
 pub fn extract_scalar(line: &[u8], words: &mut [u32], at: usize) -> usize
     requires { ⌜ Room true (map nz (now line)) (now words) at ⌝ }
     ensures { λ r. ⌜ Extracted true (map nz (now (line .entry))) (now (words .entry)) (now (words .exit)) at r ⌝ }
@@ -260,7 +259,7 @@ pub fn nz_f32(v: f32) -> bool
 
 // ---- masks
 
-// The mask of 64 bytes: the weights of each eight are joined to one byte.
+// The mask of 64 bytes: the weights of each eight are added up to one byte.
 fn mask64(b: [u8; 64]) -> u64
     ensures { λ r. ⌜ r ≡ maskOf 64 (map nz b) ⌝ }
 {

@@ -1,4 +1,4 @@
--- `extract_line_u8` meets its contract: after each turn the boundaries from column x on are left to be written.
+-- `extract_bytes` meets its contract: after each turn the boundaries from column x on are left to be written.
 -- Assumes nothing.
 use Prim.Native.Nat.{_-_}
 use mathlib.Core.Bool.{not}
@@ -9,8 +9,8 @@ use denote.Ref.{now}
 use Rattle.frame.specs.Kinds.{nz}
 use Rattle.runs.proofs.PutLaws.{extracted-long}
 use Rattle.runs.proofs.BlockLaws.{Going, going-begin, going-fits, going-turn, going-end}
-use Rattle.runs.proofs.extract_line_u8.Statement.{statement}
-use Rattle.runs.proofs.extract_line_u8.Tie as tie
+use Rattle.runs.proofs.extract_bytes.Statement.{statement}
+use Rattle.runs.proofs.extract_bytes.Tie as tie
 
 abbrev Inv-loop : tie.InvT-loop
 Inv-loop line split words₀ at n k₀ carry₀ x₀ words k carry x = Going (not split) (map nz line) words₀ at words k carry x
@@ -83,8 +83,8 @@ same-length c = extracted-long (extracted c)
 returns : tie.Need-returns Inv-loop μ-loop
 returns c = extracted c
 
-pub extract-line-u8-spec : {M : Type 1} → statement M
-extract-line-u8-spec =
+pub extract-bytes-spec : {M : Type 1} → statement M
+extract-bytes-spec =
     tie.close
     (tie.spec
     Inv-loop
