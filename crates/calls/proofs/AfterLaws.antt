@@ -19,11 +19,11 @@ use Rattle.frame.proofs.ChainRuleLaws.{label-only, length-range, length-labels,
 use Rattle.frame.proofs.KindLaws.{value-write}
 use Rattle.frame.proofs.CauseLaws.{accepted-read, accepted-sizes}
 use Rattle.frame.proofs.PlainLaws.{unless-none, kept-new}
+use Rattle.frame.proofs.ListLaws.{listed-from}
 use Rattle.label.specs.declared.Session.{Session}
 use Rattle.label.specs.Record.{shapeOf, structureOf}
 use Rattle.label.specs.Held.{figuresOf, cellsOf, rootCount, numbersHeld, sizesHeld}
 use Rattle.label.specs.Reading.{countedOf, readCauseOf, ReadPromise, sizesCauseOf, SizesPromise}
-use Rattle.label.proofs.ListLaws.{listed-from}
 use Rattle.label.proofs.Invariant.{stateOf, Inv, inv-n, inv-figures, inv-numbers, inv-sizes}
 use Rattle.label.proofs.KeepLaws.{read-cause, sizes-cause}
 use Rattle.calls.specs.Demand3.{Balanced, Reads, Sizes, Afterwards}

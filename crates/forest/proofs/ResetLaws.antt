@@ -41,7 +41,7 @@ reset-more p q a r l room R = record {
 pub reset-end : (p q : List ℕ) (a b r : ℕ) → r ≤ max a b → b ≤ r → Reset p q a r → Reset p q a b
 reset-end p q a b r h l R = record { long = R .long; own = λ s m k. R .own s m (omega arith); others = λ j o. R .others j (λ s m k. o s m (omega arith)) }
 
-grouping-same : (f g : ℕ → ℕ) (n : ℕ) → ((r : ℕ) → r < n → f r ≡ g r) → grouping f n ≡ grouping g n
+pub grouping-same : (f g : ℕ → ℕ) (n : ℕ) → ((r : ℕ) → r < n → f r ≡ g r) → grouping f n ≡ grouping g n
 unfolding grouping
 grouping-same f g zero h = refl
 grouping-same f g (suc n) h = ap₂ (λ (x : ℕ) (es : List Edge). record { from = n; to = x } ∷ es) (h n (le-refl (suc n))) (grouping-same f g n (λ r l. h r (omega arith)))

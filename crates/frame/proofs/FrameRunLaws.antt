@@ -85,6 +85,15 @@ module _ (shape structure : List ℕ) (cells : List Bool) where
       ∙ ap (λ (m : ℕ). getD (gather R m (suc (lines shape - suc ℓ))) i none) (zero-add ℓ)
       ∙ (unfold gather in List·getD-append (R ℓ) (gather R (suc ℓ) (lines shape - suc ℓ)) none i k)
 
+  -- the runs of the first lines have the first numbers
+  pub run-first : (n r : ℕ) → n ≤ lines shape → r < S n → run r ≡ getD (allRuns shape structure cells n) r none
+  unfolding frameRun runsBefore allRuns
+  run-first n r h k =
+      let e : lines shape ≡ n + (lines shape - n) = omega arith in
+      ap (λ (m : ℕ). getD (gather R 0 m) r none) e
+      ∙ ap (λ (l : List Run). getD l r none) (gather-split R 0 n (lines shape - n))
+      ∙ List·getD-append (gather R 0 n) (gather R (0 + n) (lines shape - n)) none r k
+
   -- the line of a run
   pub record Located (n r : ℕ) : Type 0 where
     pub line-of : ℕ

@@ -2,6 +2,9 @@ pub mod Answers
 pub mod ShapeLaws
 pub mod StructureLaws
 pub mod ChainRuleLaws
+pub mod ListLaws
+pub mod SetLaws
+pub mod EntryLaws
 pub mod LineLaws
 pub mod RunLaws
 pub mod FrameRunLaws

@@ -4,9 +4,10 @@ use mathlib.Core.Path.{_≡_, refl, sym, _∙_}
 use mathlib.Core.Bool.{Bool, true, false, cond, _&&_}
 use mathlib.Core.List.{List, [], _++_, List·Memᴰ, List·Memᴰ·not-nil}
 use Prim.Native.Nat.{ℕ, suc, _+_, _-_, _*_, _^_, _≤_, _<_}
+use native.Mathlib.Nat.{pow-succ'}
 use native.Mathlib.Omega.{arith}
 use borrow.Author.Tests.{ltb-true}
-use lib.ListN.{length}
+use lib.ListN.{length, getD}
 use Rattle.groups.specs.Groups.{Edge, pairs}
 use Rattle.groups.proofs.BoolLaws.{and-left, and-right}
 use Rattle.groups.proofs.GatherLaws.{gather-split, gather-same, gather-from, from-gather, Pair, pairs-from, from-pairs, pairs-same}
@@ -158,3 +159,21 @@ module _ (ds structure : List ℕ) (S Z : ℕ → ℕ) (R Q : ℕ → Run) (b : 
   touches-same hb a n h =
       gather-same (touchesOf ds structure S R) (touchesOf ds structure Z Q) a n
       (λ ℓ l u. gather-same (touchesBy ds structure S R ℓ) (touchesBy ds structure Z Q ℓ) 0 (3 ^ length ds) (λ k z v. lines-same ℓ k hb (omega arith)))
+
+-- touches look at no byte past those of one dimension more than the leading ones
+module _ (ds a b : List ℕ) (S : ℕ → ℕ) (R : ℕ → Run) (same : (c : ℕ) → c < 3 ^ suc (length ds) → getD a c 0 ≡ getD b c 0) where
+  on-same : (c : ℕ) → c < 3 ^ suc (length ds) → on a c ≡ on b c
+  unfolding on
+  on-same c h = rw (same c h)
+
+  bytes-same : (ℓ k : ℕ) → k < 3 ^ length ds → touchesBy ds a S R ℓ k ≡ touchesBy ds b S R ℓ k
+  unfolding touchesBy used
+  bytes-same ℓ k h =
+      let below : 3 * k + 2 < 3 ^ suc (length ds) = omega (arith, pow-succ' 3 (length ds)) in
+      rw (on-same (3 * k) (omega arith), on-same (3 * k + 1) (omega arith), on-same (3 * k + 2) below)
+
+  pub touches-bytes : (ℓ n : ℕ) → touches ds a S R ℓ n ≡ touches ds b S R ℓ n
+  unfolding touches touchesOf
+  touches-bytes ℓ n =
+      gather-same (touchesOf ds a S R) (touchesOf ds b S R) ℓ n
+      (λ m l u. gather-same (touchesBy ds a S R m) (touchesBy ds b S R m) 0 (3 ^ length ds) (λ k z v. bytes-same m k (omega arith)))

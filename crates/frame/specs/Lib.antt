@@ -1,6 +1,7 @@
 pub mod Shape
 pub mod Structure
 pub mod ChainRule
+pub mod Lists
 pub mod Runs
 pub mod Touches
 pub mod Kinds

@@ -1,6 +1,6 @@
 -- The words of working memory that a session needs.
 -- Assumes nothing.
-use mathlib.Core.Bool.{cond}
+use mathlib.Core.Bool.{Bool, cond}
 use mathlib.Core.List.{List}
 use Prim.Native.Nat.{ℕ, _+_, _*_, _/_}
 use Rattle.frame.specs.Shape.{width, lines}
@@ -10,9 +10,12 @@ use Rattle.frame.specs.Structure.{leftOn}
 abbrev pub stride : ℕ
 stride = 4
 
--- document 01's h, the most runs that a line can have: ⌈w/2⌉ if the left byte is nonzero, else w
+-- document 01's h, the most runs that a line of w cells can have: ⌈w/2⌉ if the left byte is nonzero, else w
+abbrev pub mostRuns : Bool → ℕ → ℕ
+mostRuns left w = cond left ((w + 1) / 2) w
+
 unfoldable pub perLine : List ℕ → List ℕ → ℕ
-perLine shape structure = cond (leftOn shape structure) ((width shape + 1) / 2) (width shape)
+perLine shape structure = mostRuns (leftOn shape structure) (width shape)
 
 -- words needed: L + 1 + 4 × L × h
 unfoldable pub wordsNeeded : List ℕ → List ℕ → ℕ

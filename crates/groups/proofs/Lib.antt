@@ -1,6 +1,7 @@
 pub mod Answers
 pub mod BoolLaws
 pub mod CountLaws
+pub mod IntervalLaws
 pub mod ChainLaws
 pub mod RepLaws
 pub mod GatherLaws

@@ -1,28 +1,61 @@
--- An accepted feed: what it was given, and what is left for it to promise.
+-- Accepted calls: what they were given, and what is left for them to promise.
 -- Assumes nothing.
-use mathlib.Core.Path.{_≡_, sym, _∙_}
+use mathlib.Core.Path.{_≡_, sym, ap, _∙_, subst}
 use mathlib.Core.Bool.{Bool}
 use mathlib.Core.List.{List}
-use Prim.Native.Nat.{ℕ, _+_, _-_, _*_, _≤_}
+use Prim.Native.Nat.{ℕ, zero, suc, _+_, _-_, _^_, _≤_, _<_}
 use native.Mathlib.Omega.{arith}
+use borrow.Author.Tests.{leb-true}
 use lib.ListN.{length}
-use Rattle.frame.specs.Shape.{width}
-use Rattle.frame.specs.Plain.{Answer, fed}
+use Rattle.frame.specs.Shape.{size, width}
+use Rattle.frame.specs.Kinds.{Number, largest, holds, Value}
+use Rattle.frame.specs.Memory.{wordsNeeded}
+use Rattle.frame.specs.Causes.{openCause}
+use Rattle.frame.specs.Plain.{Answer, fed, counted}
 use Rattle.frame.proofs.ShapeLaws.{Fits}
-use Rattle.frame.proofs.CauseLaws.{rank-right, feed-accepted, accepted-feed}
+use Rattle.frame.proofs.CauseLaws.{rank-right, Allowed, open-accepted, feed-accepted, accepted-feed, read-accepted, sizes-accepted}
 use Rattle.frame.proofs.PlainLaws.{unless-none, kept-new}
 use Rattle.label.specs.declared.Session.{Session}
 use Rattle.label.specs.Record.{shapeOf, linesOf}
 use Rattle.label.specs.Sound.{Sound, sound}
-use Rattle.label.specs.Held.{figuresOf}
+use Rattle.label.specs.Held.{figuresOf, rootCount, numbersHeld, sizesHeld}
+use Rattle.label.specs.Opening.{openRecord, openWords, blank, OpenPromise}
 use Rattle.label.specs.Feeding.{feedRecord, feedCauseOf, FeedWords, FeedPromise}
-use Rattle.label.proofs.SoundLaws.{sound-right, right-sound}
+use Rattle.label.specs.Reading.{withNames, countedOf, readCauseOf, ReadPromise, sizesCauseOf, SizesPromise}
+use Rattle.label.specs.Steps.{Accepted, FeedDone, ReadAccepted}
+use Rattle.label.proofs.SoundLaws.{sound-right, right-sound, n-roots}
 
--- a sound record, lines that the frame still has, and their cells
-pub record Accepted (s : Session) (ws : List ℕ) (k : ℕ) (cells : List Bool) : Type 0 where
-  pub is-sound : Sound s ws
-  pub few : k ≤ linesOf s - s .fed
-  pub whole : length cells ≡ k * width (shapeOf s)
+-- ---- opening
+
+-- three to the power of a rank, at most the bytes of a record
+pub bytes-few : (rank : ℕ) → rank ≤ 4 → 3 ^ rank ≤ 81
+bytes-few zero h = omega arith
+bytes-few (suc zero) h = omega arith
+bytes-few (suc (suc zero)) h = omega arith
+bytes-few (suc (suc (suc zero))) h = omega arith
+bytes-few (suc (suc (suc (suc zero)))) h = omega arith
+bytes-few (suc (suc (suc (suc (suc n))))) h = absurd (omega arith)
+
+module _ (shape structure ws : List ℕ) (none : 0 ≡ openCause shape structure (length ws)) where
+  given : Allowed shape structure (length ws)
+  given = open-accepted shape structure (length ws) (sym none)
+
+  -- there is a word 0, and a record holds the shape and the structure
+  pub open-room : 0 < length ws
+  unfolding wordsNeeded
+  open-room = omega (arith, given .enough)
+
+  pub open-short : (length shape ≤ 4) × (length structure ≤ 81)
+  open-short = let r = rank-right shape (given .ranked) .1 in (r, rw (given .bytes) (bytes-few (length shape) r))
+
+  pub accepted-open : OpenPromise shape structure ws 0 (openRecord shape structure) (openWords ws)
+  accepted-open = record {
+    said = none;
+    session = sym (kept-new blank (openRecord shape structure) (openCause shape structure (length ws)) (sym none));
+    words = sym (kept-new ws (openWords ws) (openCause shape structure (length ws)) (sym none));
+  }
+
+-- ---- feed
 
 module _ (s : Session) (ws : List ℕ) (k : ℕ) (cells : List Bool) where
   -- a feed has no cause exactly then
@@ -50,4 +83,46 @@ module _ (s : Session) (ws : List ℕ) (k : ℕ) (cells : List Bool) where
     session = sym (kept-new s (feedRecord s ws k cells) (feedCauseOf s ws k cells) (accepted-cause G));
     refusal = λ h. absurd (omega (arith, accepted-cause G));
     accepted = λ e. W;
+  }
+
+  -- it answers the figures of the record that it hands back
+  pub done-promise : Accepted s ws k cells → (s′ : Session) (ws′ : List ℕ) → FeedDone s ws k cells s′ ws′ → (a : Answer) → a ≡ fed (s′ .fed) (figuresOf s′) → (s″ : Session) → s″ ≡ s′
+      → FeedPromise s ws k cells a s″ ws′
+  unfolding feedRecord
+  done-promise G s′ ws′ D a said s″ same =
+      subst (λ (x : Answer). FeedPromise s ws k cells x s″ ws′) (sym (said ∙ ap (λ (x : Session). fed (x .fed) (figuresOf x)) (D .session)))
+      (subst (λ (x : Session). FeedPromise s ws k cells (fed (s .fed + k) (figuresOf (feedRecord s ws k cells))) x ws′) (sym (same ∙ D .session))
+      (accepted-promise G ws′ (D .words)))
+
+-- ---- reading, sizes
+
+module _ (kind : Number) (s : Session) (ws : List ℕ) where
+  pub cause-read : (out : ℕ) → readCauseOf kind s ws out ≡ 0 → ReadAccepted kind s ws out
+  unfolding readCauseOf holds
+  cause-read out e =
+      let h = read-accepted (sound s ws) out (size (shapeOf s)) (holds kind (rootCount s ws)) e in
+      record { is-sound = sound-right s ws (h .0); places = h .1; fits = leb-true (rootCount s ws) (largest kind) (h .2) }
+
+  -- it answers n as runs - joins
+  pub read-promise : (out : List (Value kind)) → readCauseOf kind s ws (length out) ≡ 0 → (ws′ : List ℕ) (out′ : List (Value kind)) → (ws′ ≡ withNames s ws) × (out′ ≡ numbersHeld s ws kind)
+      → (a : Answer) → a ≡ counted (s .runs - s .joins) (figuresOf s) → (s′ : Session) → s′ ≡ s → ReadPromise kind s ws out a s′ ws′ out′
+  read-promise out e ws′ out′ W a said s′ same = record {
+    said = said ∙ ap (λ (n : ℕ). counted n (figuresOf s)) (sym (n-roots s ws (cause-read (length out) e .is-sound))) ∙ sym (unless-none (readCauseOf kind s ws (length out)) (countedOf s ws) e);
+    session = same;
+    words = W .0 ∙ sym (kept-new ws (withNames s ws) (readCauseOf kind s ws (length out)) e);
+    output = W .1 ∙ sym (kept-new out (numbersHeld s ws kind) (readCauseOf kind s ws (length out)) e);
+  }
+
+module _ (s : Session) (ws : List ℕ) where
+  pub cause-sizes : (out : ℕ) → sizesCauseOf s ws out ≡ 0 → Sound s ws × (out ≡ rootCount s ws)
+  unfolding sizesCauseOf
+  cause-sizes out e = let h = sizes-accepted (sound s ws) out (rootCount s ws) e in (sound-right s ws (h .0), h .1)
+
+  pub sizes-promise : (out : List ℕ) → sizesCauseOf s ws (length out) ≡ 0 → (ws′ out′ : List ℕ) → (ws′ ≡ withNames s ws) × (out′ ≡ sizesHeld s ws)
+      → (a : Answer) → a ≡ counted (s .runs - s .joins) (figuresOf s) → (s′ : Session) → s′ ≡ s → SizesPromise s ws out a s′ ws′ out′
+  sizes-promise out e ws′ out′ W a said s′ same = record {
+    said = said ∙ ap (λ (n : ℕ). counted n (figuresOf s)) (sym (n-roots s ws (cause-sizes (length out) e .0))) ∙ sym (unless-none (sizesCauseOf s ws (length out)) (countedOf s ws) e);
+    session = same;
+    words = W .0 ∙ sym (kept-new ws (withNames s ws) (sizesCauseOf s ws (length out)) e);
+    output = W .1 ∙ sym (kept-new out (sizesHeld s ws) (sizesCauseOf s ws (length out)) e);
   }

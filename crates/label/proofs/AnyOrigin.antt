@@ -56,8 +56,8 @@ module _ (s : Session) (ws : List ℕ) (S : Sound s ws) where
   start-held r h = stores-holder s ws cells H (start r) (O .start-live r h) ∙ O .run-start r h
 
   ends : (r t : ℕ) → Joined es r t → (r < s .runs) × (t < s .runs)
-  ends r t (inl m) = mem-ends (λ r. r < s .runs) es (grouping-ends (parentOf (linesOf s) ws) (s .runs) (S .parents)) _ m
-  ends r t (inr m) = let e = mem-ends (λ r. r < s .runs) es (grouping-ends (parentOf (linesOf s) ws) (s .runs) (S .parents)) _ m in (e .1, e .0)
+  ends r t (inl m) = mem-ends (λ r. r < s .runs) es (grouping-ends (parentOf (linesOf s) ws) (s .runs) (S .words .parents)) _ m
+  ends r t (inr m) = let e = mem-ends (λ r. r < s .runs) es (grouping-ends (parentOf (linesOf s) ws) (s .runs) (S .words .parents)) _ m in (e .1, e .0)
 
   flip : (p q : ℕ) → HeldStep s ws p q → HeldStep s ws q p
   flip p q t = record { here = t .there; there = t .here; way = go (t .way) }
@@ -103,7 +103,7 @@ module _ (s : Session) (ws : List ℕ) (S : Sound s ws) where
   number-held p h = go (nonzero cells p) refl
     where
       by-root : nonzero cells p ≡ true → number (λ r. true) es (holderOf s ws p) ≡ numberIn (parentOf (linesOf s) ws) (holderOf s ws p)
-      by-root a = sym (number-groups (parentOf (linesOf s) ws) (s .runs) (S .parents) es (λ r l. sym (grouping-rep (parentOf (linesOf s) ws) (s .runs) (S .parents) r l)) (holderOf s ws p) (rw (stores-holder s ws cells H p a) (stores-below s ws cells H p a)))
+      by-root a = sym (number-groups (parentOf (linesOf s) ws) (s .runs) (S .words .parents) es (λ r l. sym (grouping-rep (parentOf (linesOf s) ws) (s .runs) (S .words .parents) r l)) (holderOf s ws p) (rw (stores-holder s ws cells H p a) (stores-below s ws cells H p a)))
 
       go : (b : Bool) → nonzero cells p ≡ b → cond (nonzero cells p) (number (λ r. true) es (holderOf s ws p)) 0 ≡ numberAt s ws p
       go true a = unfold numberAt in rw (a, by-root a) refl

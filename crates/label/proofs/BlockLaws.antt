@@ -18,17 +18,18 @@ use Rattle.frame.specs.Touches.{frameTouches}
 use Rattle.frame.specs.Memory.{wordsNeeded}
 use Rattle.frame.specs.Plain.{Answer}
 use Rattle.frame.specs.Words.{endPlace, parentOf}
+use Rattle.frame.specs.Lists.{sum}
 use Rattle.frame.proofs.TouchLaws.{touches-split}
 use Rattle.frame.proofs.GrowLaws.{touches-stay}
 use Rattle.forest.proofs.ForestLaws.{grouping-rep-all, grouping-joins}
 use Rattle.label.specs.declared.Session.{Session}
-use Rattle.label.specs.Lists.{sum}
 use Rattle.label.specs.Record.{shapeOf, structureOf, linesOf, withFigures}
 use Rattle.label.specs.Sound.{Sound}
 use Rattle.label.specs.Held.{cellsOf, groupingOf}
 use Rattle.label.specs.Feeding.{runsAfter, feedTouches, feedEdges, feedRecord, FeedWords, FeedPromise}
 use Rattle.label.specs.WholeFrame.{chop, blocks, Fills, no-more, block}
-use Rattle.label.proofs.AcceptedLaws.{Accepted, accepted-cause, accepted-session}
+use Rattle.label.specs.Steps.{Accepted}
+use Rattle.label.proofs.AcceptedLaws.{accepted-cause, accepted-session}
 use Rattle.label.proofs.StoreLaws.{Stores}
 use Rattle.label.proofs.SoundCells.{sound-stores}
 use Rattle.label.proofs.FeedWordLaws.{Aside, Wrote, wrote-others}
@@ -116,7 +117,7 @@ module _ (s : Session) (ws : List ℕ) (S : Sound s ws) (k : ℕ) (more : List B
   -- the grouping that the first feed left is that of its edges
   between : (a : ℕ) → rep (groupingOf s₁ ws₁) a ≡ rep (feedEdges s ws k more) a
   unfolding feedRecord shapeOf
-  between = grouping-rep-all (parentOf L ws₁) (runsAfter s more) (W .parents) (feedEdges s ws k more) (edges-ends s ws cells H k more few whole (S .memory) ws₁ W (S .parents)) (W .grouped)
+  between = grouping-rep-all (parentOf L ws₁) (runsAfter s more) (W .parents) (feedEdges s ws k more) (edges-ends s ws cells H k more few whole (S .memory) ws₁ W (S .words .parents)) (W .grouped)
 
   -- so the second feed's edges group as those of one feed
   second : feedEdges s₁ ws₁ j rest ≡ visit (feedTouches s₁ ws₁ j rest) (groupingOf s₁ ws₁)
@@ -132,7 +133,7 @@ module _ (s : Session) (ws : List ℕ) (S : Sound s ws) (k : ℕ) (more : List B
   -- the joins counted by the first feed are those of the grouping that it left
   joins-between : joins (groupingOf s₁ ws₁) ≡ joins (feedEdges s ws k more)
   unfolding feedRecord shapeOf
-  joins-between = grouping-joins (parentOf L ws₁) (runsAfter s more) (W .parents) ∙ sym (joins-after s ws cells H k more few whole (S .memory) ws₁ W (S .parents))
+  joins-between = grouping-joins (parentOf L ws₁) (runsAfter s more) (W .parents) ∙ sym (joins-after s ws cells H k more few whole (S .memory) ws₁ W (S .words .parents))
 
   joins-both : joins (feedEdges s₁ ws₁ j rest) ≡ joins (feedEdges s ws (k + j) (more ++ rest))
   joins-both =
@@ -228,7 +229,7 @@ one-feed s ws k cells a s′ ws′ G P = record { whole = G .whole; session = ac
 -- a block, and those after it
 module _ (s : Session) (ws : List ℕ) (S : Sound s ws) (k : ℕ) (more : List Bool) (s₁ : Session) (ws₁ : List ℕ) (few : k ≤ linesOf s - s .fed) (O : OneFeed s ws k more s₁ ws₁) where
   between-sound : Sound s₁ ws₁
-  between-sound = subst (λ (x : Session). Sound x ws₁) (sym (O .session)) (sound-after s ws (cellsOf s ws) (sound-stores s ws S) k more few (O .whole) (S .memory) ws₁ (O .words) (S .parents) S)
+  between-sound = subst (λ (x : Session). Sound x ws₁) (sym (O .session)) (sound-after s ws (cellsOf s ws) (sound-stores s ws S) k more few (O .whole) (S .memory) ws₁ (O .words) (S .words .parents) S)
 
   between-shape : shapeOf s₁ ≡ shapeOf s
   between-shape = ap shapeOf (O .session) ∙ feed-shape s ws k more

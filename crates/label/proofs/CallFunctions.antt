@@ -11,8 +11,8 @@ use Rattle.frame.specs.Kinds.{Number, Value, write}
 use Rattle.frame.specs.Causes.{openCause}
 use Rattle.frame.specs.Plain.{Answer, fed, counted, unless, kept, groupsOf, figures}
 use Rattle.frame.specs.Words.{parentPlace}
+use Rattle.frame.specs.Lists.{setAll}
 use Rattle.label.specs.declared.Session.{Session}
-use Rattle.label.specs.Lists.{setAll}
 use Rattle.label.specs.Record.{linesOf}
 use Rattle.label.specs.Held.{figuresOf, numbersHeld, sizesHeld}
 use Rattle.label.specs.Opening.{openRecord, openWords, blank}

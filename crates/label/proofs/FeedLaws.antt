@@ -107,8 +107,18 @@ module _ (s : Session) (ws : List ℕ) (cells : List Bool) (H : Stores s ws cell
 
   -- ---- words
 
-  few-after : runsAfter s more ≤ L * perLine shape structure
+  pub few-after : runsAfter s more ≤ L * perLine shape structure
   few-after = rw runs-after (omega (arith, starts-few shape structure (cells ++ more) (s .fed + k), mul-le-mul-right (perLine shape structure) below))
+
+  -- words that have them hold the runs of the lines fed before and of the new ones
+  pub wrote-stores : (ws′ : List ℕ) → Wrote s ws k more ws′ → Stores (feedRecord s ws k more) ws′ (cells ++ more)
+  unfolding feedRecord shapeOf structureOf
+  wrote-stores ws′ T = record {
+    fits = fits-all;
+    starts = λ ℓ h. T .lined ℓ h ∙ start-after ℓ h;
+    runs-are = runs-after;
+    listed = λ r h. T .ran r h ∙ run-after r h;
+  }
 
   module _ (memory : wordsNeeded shape structure ≤ length ws) where
     -- the memory has room for the runs
@@ -124,15 +134,8 @@ module _ (s : Session) (ws : List ℕ) (cells : List Bool) (H : Stores s ws cell
       pub written : Wrote s ws k more ws′
       written = wrote s ws k more below (λ r h. omega (arith, room r h)) room-lines ws′ W
 
-      -- they hold the runs of the lines fed before and of the new ones
       pub stores-after : Stores (feedRecord s ws k more) ws′ (cells ++ more)
-      unfolding feedRecord shapeOf structureOf
-      stores-after = record {
-        fits = fits-all;
-        starts = λ ℓ h. written .lined ℓ h ∙ start-after ℓ h;
-        runs-are = runs-after;
-        listed = λ r h. written .ran r h ∙ run-after r h;
-      }
+      stores-after = wrote-stores ws′ written
 
       -- ---- the grouping
 

@@ -11,16 +11,17 @@ use Rattle.frame.specs.Runs.{runs}
 use Rattle.frame.specs.Touches.{touches}
 use Rattle.frame.specs.Plain.{Answer}
 use Rattle.frame.specs.Words.{parentOf}
+use Rattle.frame.specs.Lists.{setAll}
 use Rattle.frame.proofs.FrameRunLaws.{start-zero, runs-all}
 use Rattle.frame.proofs.PlainLaws.{kept-old}
 use Rattle.forest.proofs.ForestLaws.{grouping-rep, grouping-joins}
 use Rattle.label.specs.declared.Session.{Session}
-use Rattle.label.specs.Lists.{setAll}
 use Rattle.label.specs.Record.{shapeOf, structureOf, linesOf, withFigures}
 use Rattle.label.specs.Sound.{Sound}
 use Rattle.label.specs.Held.{groupingOf}
 use Rattle.label.specs.Feeding.{runsAfter, feedTouches, feedEdges, feedRecord, withLines, withRuns, feedCauseOf, FeedWords, FeedPromise}
-use Rattle.label.proofs.AcceptedLaws.{Accepted, cause-accepted, accepted-fits, accepted-session}
+use Rattle.label.specs.Steps.{Accepted}
+use Rattle.label.proofs.AcceptedLaws.{cause-accepted, accepted-fits, accepted-session}
 
 module _ (s : Session) (ws : List ℕ) (cells : List Bool) (G : Accepted s ws 0 cells) where
   S : Sound s ws
@@ -45,13 +46,13 @@ module _ (s : Session) (ws : List ℕ) (cells : List Bool) (G : Accepted s ws 0 
   words-none = record {
     long = refl;
     others = λ j free. rw same-words;
-    parents = λ r h. S .parents r (rw (← same-runs) h);
-    grouped = λ r h. rw same-edges (sym (grouping-rep (parentOf (linesOf s) ws) (s .runs) (S .parents) r (rw (← same-runs) h)));
+    parents = λ r h. S .words .parents r (rw (← same-runs) h);
+    grouped = λ r h. rw same-edges (sym (grouping-rep (parentOf (linesOf s) ws) (s .runs) (S .words .parents) r (rw (← same-runs) h)));
     no-lines = λ e. refl;
   }
 
   same-joins : joins (feedEdges s ws 0 cells) ≡ s .joins
-  same-joins = ap joins same-edges ∙ grouping-joins (parentOf (linesOf s) ws) (s .runs) (S .parents) ∙ sym (S .join-count)
+  same-joins = ap joins same-edges ∙ grouping-joins (parentOf (linesOf s) ws) (s .runs) (S .words .parents) ∙ sym (S .words .join-count)
 
   pub record-none : feedRecord s ws 0 cells ≡ s
   unfolding feedRecord

@@ -13,10 +13,10 @@ use Rattle.frame.specs.ChainRule.{any}
 use Rattle.frame.specs.Runs.{runs, Run}
 use Rattle.frame.specs.Words.{linePlace, startPlace, endPlace, lineStart, storedRun, NoParent}
 use Rattle.frame.proofs.ChainRuleLaws.{any-found, any-at}
+use Rattle.frame.proofs.SetLaws.{length-setAll, setAll-other, setAll-at}
 use Rattle.label.specs.declared.Session.{Session}
 use Rattle.label.specs.Record.{shapeOf, structureOf, linesOf}
 use Rattle.label.specs.Feeding.{runsAfter, startAfter, runAfter, withLines, withRuns, FeedWords}
-use Rattle.label.proofs.SetLaws.{length-setAll, setAll-other, setAll-at}
 
 -- the place is of no line start and no new run's start or end that a feed writes
 pub record Aside (s : Session) (k : ℕ) (cells : List Bool) (j : ℕ) : Type 0 where

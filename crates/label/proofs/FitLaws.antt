@@ -6,34 +6,34 @@ use mathlib.Core.List.{List, [], _∷_}
 use Prim.Native.Nat.{ℕ, zero, suc, _+_, _≤_, _<_}
 use native.Mathlib.Nat.{le-refl}
 use native.Mathlib.Omega.{arith}
-use borrow.Author.Tests.{eqb-true, eq-eqb, leb-false, leb-true}
-use lib.Dec.{eqb, leb}
+use borrow.Author.Tests.{eqb-true, eq-eqb, leb-true}
+use lib.Dec.{eqb}
 use lib.ListN.{getD, set, length}
 use Rattle.groups.specs.Numbers.{Numbered}
-use Rattle.groups.proofs.BoolLaws.{or₃-false}
 use Rattle.groups.proofs.CountLaws.{count-most}
 use Rattle.frame.specs.Shape.{size, width, lines}
 use Rattle.frame.specs.ChainRule.{nonzero, any}
 use Rattle.frame.specs.Runs.{beginsRun, runs}
 use Rattle.frame.specs.Kinds.{Number, largest, holds, Value}
-use Rattle.frame.specs.Causes.{tooLarge}
 use Rattle.frame.specs.Plain.{Answer, kept}
 use Rattle.frame.specs.Words.{parentPlace, lineStart, parentOf, NoParent}
+use Rattle.frame.specs.Lists.{setAll}
 use Rattle.frame.proofs.ChainRuleLaws.{any-found, any-at}
 use Rattle.frame.proofs.LineLaws.{Within}
 use Rattle.frame.proofs.CauseLaws.{read-accepted, sizes-accepted}
 use Rattle.forest.specs.Forest.{rootOf, numberIn}
 use Rattle.forest.proofs.ForestLaws.{roots-others, root-le}
+use Rattle.geo.proofs.GeoLaws.{within-limits}
 use Rattle.label.specs.declared.Session.{Session}
-use Rattle.label.specs.Lists.{setAll}
 use Rattle.label.specs.Record.{shapeOf, structureOf, linesOf}
 use Rattle.label.specs.Sound.{Sound, sound}
 use Rattle.label.specs.Held.{cellsOf, HeldStep, rootCount, numberAt, sizeAt}
 use Rattle.label.specs.Opening.{openWords}
 use Rattle.label.specs.Feeding.{runsAfter, startAfter, runAfter, feedRecord, withLines, withRuns, feedCauseOf, FeedWords, FeedPromise}
 use Rattle.label.specs.Reading.{withNames, readCauseOf, ReadPromise, sizesCauseOf, SizesPromise}
+use Rattle.label.specs.Steps.{Accepted}
 use Rattle.label.proofs.SoundLaws.{sound-right, starts-rise, n-joins}
-use Rattle.label.proofs.AcceptedLaws.{Accepted, cause-accepted}
+use Rattle.label.proofs.AcceptedLaws.{cause-accepted}
 use Rattle.label.proofs.StoreLaws.{Stores}
 use Rattle.label.proofs.SoundCells.{sound-stores, runs-held}
 use Rattle.label.proofs.AnyOrigin.{any-numbered}
@@ -68,9 +68,8 @@ module _ (s : Session) (ws : List ℕ) (S : Sound s ws) where
   abbrev dims : List ℕ
   dims = shapeOf s
 
-  limits : (width dims < 2147483647) × (lines dims < 4294967293) × (size dims < 4294967293)
-  unfolding tooLarge
-  limits = let f = or₃-false (leb 2147483647 (width dims)) (leb 4294967293 (lines dims)) (leb 4294967293 (size dims)) (S .limits) in (leb-false _ _ (f .0), leb-false _ _ (f .1), leb-false _ _ (f .2))
+  pub limits : (width dims < 2147483647) × (lines dims < 4294967293) × (size dims < 4294967293)
+  limits = within-limits dims (S .limits)
 
   pub fed-fits : s .fed < 4294967293
   fed-fits = omega (arith, S .within, limits .1)
@@ -101,14 +100,14 @@ module _ (s : Session) (ws : List ℕ) (S : Sound s ws) where
       go false a = omega (arith, N .off p h a)
 
   line-fits : (ℓ : ℕ) → ℓ ≤ s .fed → lineStart ws ℓ < 4294967296
-  line-fits ℓ h = omega (arith, starts-rise s ws S ℓ (s .fed) h (le-refl (s .fed)), S .last, runs-fit)
+  line-fits ℓ h = omega (arith, starts-rise s ws S ℓ (s .fed) h (le-refl (s .fed)), S .words .last, runs-fit)
 
   -- a run's number is not above the count of the runs up to it
   number-fits : (r : ℕ) → r < s .runs → numberIn (parentOf (linesOf s) ws) r < 4294967296
   unfolding numberIn
   number-fits r h =
       let p = parentOf (linesOf s) ws in
-      omega (arith, roots-others p (suc (rootOf p r)), root-le p (s .runs) (S .parents) r h, runs-fit)
+      omega (arith, roots-others p (suc (rootOf p r)), root-le p (s .runs) (S .words .parents) r h, runs-fit)
 
   pub names-fit : Words32 ws → Words32 (withNames s ws)
   unfolding withNames
@@ -138,7 +137,7 @@ module _ (s : Session) (ws : List ℕ) (k : ℕ) (cells : List Bool) (no-cause :
 
   -- the record is sound again, so that the line starts, runs and parents that the words then hold fit
   S′ : Sound (feedRecord s ws k cells) ws′
-  S′ = sound-after s ws (cellsOf s ws) H k cells (G .few) (G .whole) (G .is-sound .memory) ws′ W (G .is-sound .parents) (G .is-sound)
+  S′ = sound-after s ws (cellsOf s ws) H k cells (G .few) (G .whole) (G .is-sound .memory) ws′ W (G .is-sound .words .parents) (G .is-sound)
 
   placed : Wrote s ws k cells ws′
   placed = written s ws (cellsOf s ws) H k cells (G .few) (G .whole) (G .is-sound .memory) ws′ W
@@ -149,7 +148,7 @@ module _ (s : Session) (ws : List ℕ) (k : ℕ) (cells : List Bool) (no-cause :
 
   run-inside : (r : ℕ) → r < after → Within w (runAfter s ws cells r)
   unfolding feedRecord shapeOf
-  run-inside r h = subst (Within w) (placed .ran r h) (record { full = S′ .nonempty r h; fits = S′ .inside r h })
+  run-inside r h = subst (Within w) (placed .ran r h) (record { full = S′ .words .nonempty r h; fits = S′ .words .inside r h })
 
   -- so do all words, parents aside: the others are as before
   with-runs : Words32 (withRuns s ws k cells)

@@ -14,18 +14,19 @@ use Rattle.frame.specs.Kinds.{Number, holds, Value, write}
 use Rattle.frame.specs.Causes.{openCause}
 use Rattle.frame.specs.Plain.{read, Answer, fed, counted, refused, kept, State, feeds, groupsOf, figures, cause}
 use Rattle.frame.specs.Words.{namePlace}
+use Rattle.frame.specs.Lists.{sum}
 use Rattle.frame.proofs.ShapeLaws.{size-lines}
 use Rattle.frame.proofs.CauseLaws.{Allowed, open-accepted, frame-accepted, frame-reads, frame-known}
 use Rattle.frame.proofs.PlainLaws.{unless-same, unless-some, kept-old, kept-same}
 use Rattle.label.specs.declared.Session.{Session}
-use Rattle.label.specs.Lists.{sum}
 use Rattle.label.specs.Record.{shapeOf, structureOf, linesOf}
 use Rattle.label.specs.Held.{figuresOf, cellsOf}
 use Rattle.label.specs.Opening.{openRecord, openWords}
 use Rattle.label.specs.Feeding.{runsAfter, feedRecord, feedCauseOf, FeedWords, FeedPromise}
 use Rattle.label.specs.Reading.{withNames, countedOf, readCauseOf, ReadPromise}
 use Rattle.label.specs.WholeFrame.{Fills, allFed, earlyCauseOf, frameCauseOf, FrameWords, FramePromise}
-use Rattle.label.proofs.AcceptedLaws.{Accepted, accepted-cause, accepted-promise}
+use Rattle.label.specs.Steps.{Accepted}
+use Rattle.label.proofs.AcceptedLaws.{accepted-cause, accepted-promise}
 use Rattle.label.proofs.SoundCells.{sound-stores}
 use Rattle.label.proofs.FeedLaws.{feed-shape, room}
 use Rattle.label.proofs.Invariant.{stateOf, Inv, inv-n, inv-figures, inv-numbers}

@@ -12,10 +12,10 @@ use Rattle.frame.specs.Shape.{width}
 use Rattle.frame.specs.ChainRule.{nonzero, any}
 use Rattle.frame.specs.Runs.{Covers}
 use Rattle.frame.specs.Words.{lineStart, runStart, runEnd, storedRun}
+use Rattle.frame.proofs.ListLaws.{listed-at, listed-length}
 use Rattle.label.specs.declared.Session.{Session}
 use Rattle.label.specs.Record.{shapeOf, linesOf}
 use Rattle.label.specs.Held.{holdsCell, cellsOf}
-use Rattle.label.proofs.ListLaws.{listed-at, listed-length}
 
 module _ (s : Session) (ws : List ℕ) where
   abbrev w : ℕ

@@ -18,13 +18,13 @@ use Rattle.frame.specs.Kinds.{Number, write}
 use Rattle.frame.specs.Plain.{State, groupsOf, figures}
 use Rattle.frame.specs.Words.{parentOf}
 use Rattle.frame.proofs.RunGroupLaws.{groups-visited, number-visited}
+use Rattle.frame.proofs.ListLaws.{same-map, map-twice}
 use Rattle.forest.specs.Forest.{rootOf, numberIn}
 use Rattle.forest.proofs.ForestLaws.{roots-groups, number-groups}
 use Rattle.label.specs.declared.Session.{Session}
 use Rattle.label.specs.Record.{shapeOf, structureOf, linesOf}
 use Rattle.label.specs.Sound.{Sound}
 use Rattle.label.specs.Held.{figuresOf, cellsOf, holderOf, rootCount, numberAt, sizeAt, numbersHeld, sizesHeld}
-use Rattle.label.proofs.ListLaws.{same-map, map-twice}
 use Rattle.label.proofs.SoundLaws.{n-joins}
 use Rattle.label.proofs.StoreLaws.{Stores, stores-below, stores-holder}
 use Rattle.label.proofs.SoundCells.{sound-stores, runs-held}
@@ -65,7 +65,7 @@ module _ (s : Session) (ws : List ℕ) (I : Inv s ws) where
   pub inv-n : rootCount s ws ≡ groupsOf shape (stateOf s ws)
   unfolding rootCount groupsOf
   inv-n =
-      roots-groups parent (s .runs) (I .is-sound .parents) (visited s ws) (I .grouped) (s .runs) (le-refl (s .runs))
+      roots-groups parent (s .runs) (I .is-sound .words .parents) (visited s ws) (I .grouped) (s .runs) (le-refl (s .runs))
       ∙ ap (groups (λ r. true) (visited s ws)) inv-runs
       ∙ groups-visited shape structure cells (s .fed) (H .fits)
 
@@ -87,7 +87,7 @@ module _ (s : Session) (ws : List ℕ) (I : Inv s ws) where
       in-run : nonzero cells p ≡ true → numberIn parent (holderOf s ws p) ≡ number (λ r. true) (visited s ws) (runOf shape structure cells p)
       in-run e =
           ap (numberIn parent) (stores-holder s ws cells H p e)
-          ∙ number-groups parent (s .runs) (I .is-sound .parents) (visited s ws) (I .grouped) (runOf shape structure cells p) (stores-below s ws cells H p e)
+          ∙ number-groups parent (s .runs) (I .is-sound .words .parents) (visited s ws) (I .grouped) (runOf shape structure cells p) (stores-below s ws cells H p e)
 
       go : (b : Bool) → nonzero cells p ≡ b → cond (nonzero cells p) (numberIn parent (holderOf s ws p)) 0 ≡ label shape structure cells p
       go true e = rw (e, in-run e) (rw e at by-run)

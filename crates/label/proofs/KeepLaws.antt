@@ -24,8 +24,9 @@ use Rattle.label.specs.Sound.{Sound, sound}
 use Rattle.label.specs.Held.{figuresOf, cellsOf, groupingOf}
 use Rattle.label.specs.Feeding.{feedEdges, feedRecord, feedCauseOf, FeedWords, FeedPromise}
 use Rattle.label.specs.Reading.{withNames, countedOf, readCauseOf, ReadPromise, sizesCauseOf, SizesPromise}
+use Rattle.label.specs.Steps.{Accepted}
 use Rattle.label.proofs.SoundLaws.{right-sound}
-use Rattle.label.proofs.AcceptedLaws.{Accepted, cause-accepted, accepted-session}
+use Rattle.label.proofs.AcceptedLaws.{cause-accepted, accepted-session}
 use Rattle.label.proofs.StoreLaws.{Stores, stores-cells}
 use Rattle.label.proofs.SoundCells.{sound-stores}
 use Rattle.label.proofs.FeedLaws.{feed-shape, touches-after, stores-after, sound-after}
@@ -46,11 +47,11 @@ module _ (s : Session) (ws : List ℕ) (I : Inv s ws) (k : ℕ) (more : List Boo
   fed-cells = stores-cells (feedRecord s ws k more) ws′ (cellsOf s ws ++ more) (stores-after s ws (cellsOf s ws) H k more (G .few) (G .whole) (I .is-sound .memory) ws′ W)
 
   pub fed-sound : Sound (feedRecord s ws k more) ws′
-  fed-sound = sound-after s ws (cellsOf s ws) H k more (G .few) (G .whole) (I .is-sound .memory) ws′ W (I .is-sound .parents) (I .is-sound)
+  fed-sound = sound-after s ws (cellsOf s ws) H k more (G .few) (G .whole) (I .is-sound .memory) ws′ W (I .is-sound .words .parents) (I .is-sound)
 
   -- the grouping held before is that of the old lines' touches
   before : (a : ℕ) → rep (groupingOf s ws) a ≡ rep (visited s ws) a
-  before = grouping-rep-all (parentOf (linesOf s) ws) (s .runs) (I .is-sound .parents) (visited s ws) ends (I .grouped)
+  before = grouping-rep-all (parentOf (linesOf s) ws) (s .runs) (I .is-sound .words .parents) (visited s ws) ends (I .grouped)
     where
       touched : Ends (λ r. r < s .runs) (frameTouches (shapeOf s) (structureOf s) (cellsOf s ws) 0 (s .fed))
       touched = subst (λ (n : ℕ). Ends (λ r. r < n) (frameTouches (shapeOf s) (structureOf s) (cellsOf s ws) 0 (s .fed))) (sym (inv-runs s ws I)) (touches-runs (shapeOf s) (structureOf s) (cellsOf s ws) (s .fed) (H .fits))

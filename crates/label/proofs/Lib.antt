@@ -1,8 +1,8 @@
-pub mod ListLaws
-pub mod SetLaws
-pub mod EntryLaws
 pub mod SoundLaws
 pub mod AcceptedLaws
+pub mod CheckLaws
+pub mod RefusedLaws
+pub mod RecordGeometry
 pub mod HoldLaws
 pub mod StoreLaws
 pub mod ApartLaws
@@ -12,6 +12,8 @@ pub mod AnyOrigin
 pub mod FeedWordLaws
 pub mod FeedLaws
 pub mod NameLaws
+pub mod WrittenNumbers
+pub mod WrittenSizes
 pub mod Invariant
 pub mod KeepLaws
 pub mod OpenLaws
@@ -20,6 +22,7 @@ pub mod BlockLaws
 pub mod CallFunctions
 pub mod MeetLaws
 pub mod FitLaws
+pub mod FeedBlockLaws
 pub mod FrameLaws
 pub mod OnlyLaws
 pub mod WholeFrames

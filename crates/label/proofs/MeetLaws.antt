@@ -13,18 +13,19 @@ use Rattle.frame.specs.Shape.{lines}
 use Rattle.frame.specs.Kinds.{Number, Value}
 use Rattle.frame.specs.Plain.{kept}
 use Rattle.frame.specs.Words.{parentPlace, parentOf}
+use Rattle.frame.specs.Lists.{sum}
 use Rattle.frame.proofs.PlainLaws.{kept-new, kept-old}
+use Rattle.frame.proofs.SetLaws.{length-setAll, setAll-other, setAll-at}
 use Rattle.forest.proofs.ForestLaws.{canonical-root}
 use Rattle.label.specs.declared.Session.{Session}
-use Rattle.label.specs.Lists.{sum}
 use Rattle.label.specs.Record.{linesOf}
 use Rattle.label.specs.Held.{cellsOf}
 use Rattle.label.specs.Opening.{openRecord, openWords, OpenPromise}
 use Rattle.label.specs.Feeding.{runsAfter, feedEdges, withRuns, feedCauseOf, FeedWords, FeedPromise}
 use Rattle.label.specs.Reading.{withNames, ReadPromise, SizesPromise}
 use Rattle.label.specs.WholeFrame.{Fills, no-more, block, earlyCauseOf, frameCauseOf, FramePromise}
-use Rattle.label.proofs.SetLaws.{length-setAll, setAll-other, setAll-at}
-use Rattle.label.proofs.AcceptedLaws.{Accepted, cause-accepted}
+use Rattle.label.specs.Steps.{Accepted}
+use Rattle.label.proofs.AcceptedLaws.{cause-accepted}
 use Rattle.label.proofs.SoundCells.{sound-stores}
 use Rattle.label.proofs.FeedWordLaws.{length-withRuns}
 use Rattle.label.proofs.FeedLaws.{room}

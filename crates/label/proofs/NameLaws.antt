@@ -8,13 +8,13 @@ use Prim.Native.Nat.{ℕ, _≤_, _<_}
 use native.Mathlib.Omega.{arith}
 use lib.ListN.{length, getD}
 use Rattle.frame.specs.Words.{namePlace, parentOf, nameOf}
+use Rattle.frame.proofs.SetLaws.{length-setAll, setAll-other, setAll-at}
 use Rattle.forest.specs.Forest.{nonRoots, numberIn}
 use Rattle.label.specs.declared.Session.{Session}
 use Rattle.label.specs.Record.{linesOf}
 use Rattle.label.specs.Sound.{Sound}
 use Rattle.label.specs.Held.{cellsOf}
 use Rattle.label.specs.Reading.{withNames}
-use Rattle.label.proofs.SetLaws.{length-setAll, setAll-other, setAll-at}
 use Rattle.label.proofs.StoreLaws.{Stores, stores-cells}
 use Rattle.label.proofs.StoredSound.{stores-sound}
 
@@ -54,5 +54,5 @@ module _ (s : Session) (ws : List ℕ) where
     pub sound-named : Sound s ws → Sound s (withNames s ws)
     sound-named S =
         stores-sound s (withNames s ws) cells stores-named (S .ranked) (S .dimensions) (S .limits) (rw length-names (S .memory))
-        (subst (λ (p : ℕ → ℕ). (r : ℕ) → r < s .runs → p r ≤ r) (sym parents-stand) (S .parents))
-        (S .join-count ∙ ap (λ (p : ℕ → ℕ). nonRoots p (s .runs)) (sym parents-stand))
+        (subst (λ (p : ℕ → ℕ). (r : ℕ) → r < s .runs → p r ≤ r) (sym parents-stand) (S .words .parents))
+        (S .words .join-count ∙ ap (λ (p : ℕ → ℕ). nonRoots p (s .runs)) (sym parents-stand))

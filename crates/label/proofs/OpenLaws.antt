@@ -13,16 +13,16 @@ use Rattle.frame.specs.Shape.{width}
 use Rattle.frame.specs.Memory.{wordsNeeded}
 use Rattle.frame.specs.Causes.{openCause}
 use Rattle.frame.specs.Plain.{opened}
+use Rattle.frame.specs.Lists.{entries, padded}
 use Rattle.frame.proofs.FrameRunLaws.{start-zero}
 use Rattle.frame.proofs.CauseLaws.{rank-right, Allowed, open-accepted}
 use Rattle.frame.proofs.PlainLaws.{kept-new}
+use Rattle.frame.proofs.EntryLaws.{entries-padded}
 use Rattle.forest.specs.Forest.{nonRoots}
 use Rattle.label.specs.declared.Session.{Session}
-use Rattle.label.specs.Lists.{entries, padded}
 use Rattle.label.specs.Record.{shapeOf, structureOf}
 use Rattle.label.specs.Sound.{Sound}
 use Rattle.label.specs.Opening.{openRecord, openWords, blank, OpenPromise}
-use Rattle.label.proofs.EntryLaws.{entries-padded}
 use Rattle.label.proofs.StoreLaws.{Stores, stores-cells}
 use Rattle.label.proofs.StoredSound.{stores-sound}
 use Rattle.label.proofs.Invariant.{stateOf, Inv}

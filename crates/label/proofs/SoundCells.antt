@@ -17,11 +17,11 @@ use Rattle.frame.proofs.ChainRuleLaws.{any-found, any-at, nonzero-below}
 use Rattle.frame.proofs.LineLaws.{In, Apart, Within, in-below}
 use Rattle.frame.proofs.FrameRunLaws.{start-zero, start-suc, run-at, located, nonzero-line, short, runs-all}
 use Rattle.frame.proofs.CauseLaws.{rank-right}
+use Rattle.frame.proofs.ListLaws.{listed-at, listed-length}
 use Rattle.label.specs.declared.Session.{Session}
 use Rattle.label.specs.Record.{shapeOf, structureOf, linesOf}
 use Rattle.label.specs.Sound.{Sound}
 use Rattle.label.specs.Held.{holdsCell, cellsOf}
-use Rattle.label.proofs.ListLaws.{listed-at, listed-length}
 use Rattle.label.proofs.SoundLaws.{starts-rise}
 use Rattle.label.proofs.HoldLaws.{holds-parts, parts-hold, length-held, nonzero-held}
 use Rattle.label.proofs.StoreLaws.{Stores}
@@ -60,7 +60,7 @@ module _ (s : Session) (ws : List ℕ) (K : Sound s ws) where
   -- ---- line starts
 
   start-most : (ℓ : ℕ) → ℓ ≤ s .fed → lineStart ws ℓ ≤ s .runs
-  start-most ℓ h = subst (λ (n : ℕ). lineStart ws ℓ ≤ n) (K .last) (starts-rise s ws K ℓ (s .fed) h (le-refl (s .fed)))
+  start-most ℓ h = subst (λ (n : ℕ). lineStart ws ℓ ≤ n) (K .words .last) (starts-rise s ws K ℓ (s .fed) h (le-refl (s .fed)))
 
   -- ---- one line
 
@@ -87,13 +87,13 @@ module _ (s : Session) (ws : List ℕ) (K : Sound s ws) where
     held-within : (i : ℕ) → i < length held → Within w (getD held i none)
     held-within i l =
         let k : i < few = rw held-length at l in
-        subst (Within w) (sym (held-at i k)) (record { full = K .nonempty (lineStart ws ℓ + i) (below i k); fits = K .inside (lineStart ws ℓ + i) (below i k) })
+        subst (Within w) (sym (held-at i k)) (record { full = K .words .nonempty (lineStart ws ℓ + i) (below i k); fits = K .words .inside (lineStart ws ℓ + i) (below i k) })
 
     held-next : (i : ℕ) → suc i < length held → getD held i none .end + gapOf left ≤ getD held (suc i) none .start
     held-next i l =
         let k : suc i < few = rw held-length at l in
         let e : lineStart ws ℓ + suc i ≡ suc (lineStart ws ℓ + i) = omega arith in
-        rw (held-at i (omega arith), held-at (suc i) k, e) (K .ordered ℓ h (lineStart ws ℓ + i) (below i (omega arith)) (omega arith) (omega arith))
+        rw (held-at i (omega arith), held-at (suc i) k, e) (K .words .ordered ℓ h (lineStart ws ℓ + i) (below i (omega arith)) (omega arith) (omega arith))
 
     held-apart : Apart (gapOf left) 0 w held
     held-apart = apart-from held (gapOf left) 0 w (λ l. omega arith) held-within held-next
@@ -101,7 +101,7 @@ module _ (s : Session) (ws : List ℕ) (K : Sound s ws) where
     held-short : left ≡ false → (i : ℕ) → i < length held → Short (getD held i none)
     held-short e i l =
         let k : i < few = rw held-length at l in
-        subst Short (sym (held-at i k)) (K .single e (lineStart ws ℓ + i) (below i k))
+        subst Short (sym (held-at i k)) (K .words .single e (lineStart ws ℓ + i) (below i k))
 
     -- ---- its columns
 
@@ -143,11 +143,11 @@ module _ (s : Session) (ws : List ℕ) (K : Sound s ws) where
   -- ---- all lines
 
   starts-are : (ℓ : ℕ) → ℓ ≤ s .fed → lineStart ws ℓ ≡ S ℓ
-  starts-are zero h = K .first ∙ sym (start-zero dims bytes cells)
-  starts-are (suc ℓ) h = omega (arith, starts-are ℓ (omega arith), K .rising ℓ h, start-suc dims bytes cells ℓ, ap length (line-runs ℓ h), held-length ℓ h)
+  starts-are zero h = K .words .first ∙ sym (start-zero dims bytes cells)
+  starts-are (suc ℓ) h = omega (arith, starts-are ℓ (omega arith), K .words .rising ℓ h, start-suc dims bytes cells ℓ, ap length (line-runs ℓ h), held-length ℓ h)
 
   runs-are : s .runs ≡ S (s .fed)
-  runs-are = sym (K .last) ∙ starts-are (s .fed) (le-refl (s .fed))
+  runs-are = sym (K .words .last) ∙ starts-are (s .fed) (le-refl (s .fed))
 
   listed : (r : ℕ) → r < s .runs → stored r ≡ run r
   listed r h =

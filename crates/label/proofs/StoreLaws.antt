@@ -14,10 +14,10 @@ use Rattle.frame.specs.Words.{lineStart, storedRun}
 use Rattle.frame.proofs.ShapeLaws.{factor-pos, Fits}
 use Rattle.frame.proofs.ChainRuleLaws.{any-found, any-at, nonzero-below}
 use Rattle.frame.proofs.FrameRunLaws.{start-le, run-cells, line-below, InRun, cell-run}
+use Rattle.frame.proofs.ListLaws.{last-only}
 use Rattle.label.specs.declared.Session.{Session}
 use Rattle.label.specs.Record.{shapeOf, structureOf, linesOf}
 use Rattle.label.specs.Held.{holdsCell, cellsOf, holderOf}
-use Rattle.label.proofs.ListLaws.{last-only}
 use Rattle.label.proofs.HoldLaws.{holds-parts, parts-hold, length-held, nonzero-held}
 
 -- the words hold the runs of those cells, which are the cells of the lines fed
@@ -54,7 +54,7 @@ module _ (s : Session) (ws : List ℕ) (cells : List Bool) (H : Stores s ws cell
         let k : of p < runsBefore dims bytes cells (s .fed) = lt-of-lt-of-le (in-run .high) (start-le dims bytes cells (suc (p / w)) (s .fed) fed-line) in
         subst (λ (n : ℕ). of p < n) (sym (H .runs-are)) k
 
-    own-holds : holdsCell s ws p (of p) ≡ true
+    pub own-holds : holdsCell s ws p (of p) ≡ true
     own-holds =
         parts-hold s ws p (of p)
         (record {
@@ -64,7 +64,7 @@ module _ (s : Session) (ws : List ℕ) (cells : List Bool) (H : Stores s ws cell
         })
 
   -- a run that holds a cell of the lines fed is its run, and the cell is nonzero
-  holder-is : (p r : ℕ) → p < s .fed * w → r < s .runs → holdsCell s ws p r ≡ true → (nonzero cells p ≡ true) × (of p ≡ r)
+  pub holder-is : (p r : ℕ) → p < s .fed * w → r < s .runs → holdsCell s ws p r ≡ true → (nonzero cells p ≡ true) × (of p ≡ r)
   holder-is p r h l e =
       let k = holds-parts s ws p r e in
       let fed : p / w < s .fed = div-lt-iff-lt-mul (factor-pos (s .fed) w p h) .1 h in

@@ -16,6 +16,7 @@ use Rattle.frame.specs.Words.{lineStart, runStart, runEnd, parentOf, storedRun}
 use Rattle.frame.proofs.LineLaws.{Within}
 use Rattle.frame.proofs.FrameRunLaws.{start-zero, start-suc, start-le, run-at, Located, located, runs-few, run-within, run-order}
 use Rattle.forest.specs.Forest.{nonRoots}
+use Rattle.link.specs.Sweeps.{InOrder}
 use Rattle.label.specs.declared.Session.{Session}
 use Rattle.label.specs.Record.{shapeOf, structureOf, linesOf}
 use Rattle.label.specs.Sound.{Sound}
@@ -83,6 +84,17 @@ module _ (s : Session) (ws : List ℕ) (cells : List Bool) (H : Stores s ws cell
         let o : Short (getD (lineRuns left (lineOf (width dims) cells ℓ)) i none) = rw e (line-short (lineOf (width dims) cells ℓ) i) in
         subst Short (sym q) o
 
+  -- each line's runs are in order
+  pub stores-ordered : (ℓ : ℕ) → ℓ < s .fed → InOrder (storedRun (linesOf s) ws) (lineStart ws ℓ) (lineStart ws (suc ℓ))
+  stores-ordered ℓ h = record {
+    upto = starts-rise ℓ h;
+    nonempty = λ r low high. run-inside r (before r high) .full;
+    ordered = λ r low high. omega (arith, next-starts ℓ h r low high);
+  }
+    where
+      before : (r : ℕ) → r < lineStart ws (suc ℓ) → r < s .runs
+      before r high = omega (arith, there ℓ h, H .runs-are, start-le dims bytes cells (suc ℓ) (s .fed) h)
+
   module _ (ranked : badRank dims ≡ false) (dimensions : hasZero (leading dims) ≡ false) (limits : tooLarge dims ≡ false) (memory : wordsNeeded dims bytes ≤ length ws) (parents : (r : ℕ) → r < s .runs → parentOf (linesOf s) ws r ≤ r) (join-count : s .joins ≡ nonRoots (parentOf (linesOf s) ws) (s .runs)) where
     pub stores-sound : Sound s ws
     stores-sound = record {
@@ -91,14 +103,16 @@ module _ (s : Session) (ws : List ℕ) (cells : List Bool) (H : Stores s ws cell
       limits = limits;
       memory = memory;
       within = H .fits .below;
-      first = H .starts 0 (omega arith) ∙ start-zero dims bytes cells;
-      rising = starts-rise;
-      last = H .starts (s .fed) (le-refl (s .fed)) ∙ sym (H .runs-are);
-      room = starts-room;
-      nonempty = λ r h. run-inside r h .full;
-      inside = λ r h. run-inside r h .fits;
-      ordered = λ ℓ h r k. next-starts ℓ h r;
-      single = λ e r h. run-short r h e;
-      parents = parents;
-      join-count = join-count;
+      words = record {
+        first = H .starts 0 (omega arith) ∙ start-zero dims bytes cells;
+        rising = starts-rise;
+        last = H .starts (s .fed) (le-refl (s .fed)) ∙ sym (H .runs-are);
+        room = unfold perLine in starts-room;
+        nonempty = λ r h. run-inside r h .full;
+        inside = λ r h. run-inside r h .fits;
+        ordered = λ ℓ h r k. next-starts ℓ h r;
+        single = λ e r h. run-short r h e;
+        parents = parents;
+        join-count = join-count;
+      };
     }

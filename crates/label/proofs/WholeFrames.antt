@@ -12,11 +12,11 @@ use Rattle.frame.specs.ChainRule.{labels}
 use Rattle.frame.specs.Runs.{runs}
 use Rattle.frame.specs.Kinds.{Cells, flags, Number, Value, write}
 use Rattle.frame.specs.Plain.{feed, read, Answer, fed, counted, nothing, numbers, Answered, written, unless, kept, State, opened, feeds, groupsOf, figures, cause, answer, answered, next, plain}
+use Rattle.frame.specs.Lists.{sum}
 use Rattle.frame.proofs.ShapeLaws.{size-lines}
 use Rattle.frame.proofs.CauseLaws.{accepted-feed}
 use Rattle.frame.proofs.PlainLaws.{unless-none, next-feeds}
 use Rattle.label.specs.declared.Session.{Session}
-use Rattle.label.specs.Lists.{sum}
 use Rattle.label.specs.Opening.{openRecord, openWords}
 use Rattle.label.specs.Reading.{ReadPromise}
 use Rattle.label.specs.WholeFrame.{blocks, Fills, allFed, earlyCauseOf, FramePromise}

@@ -8,13 +8,13 @@ use lib.ListN.{length, getD, set, replicate}
 use Rattle.frame.specs.Kinds.{u8}
 use Rattle.frame.specs.Plain.{Figures, Answer, fed, counted, refused}
 use Rattle.frame.specs.Words.{namePlace, parentOf}
+use Rattle.frame.proofs.SetLaws.{setAll-other, setAll-at}
 use Rattle.forest.specs.Forest.{numberIn}
 use Rattle.label.specs.declared.Session.{Session}
 use Rattle.label.specs.Opening.{OpenPromise}
 use Rattle.label.specs.Feeding.{FeedPromise}
 use Rattle.label.specs.Reading.{withNames, ReadPromise, SizesPromise}
 use Rattle.label.specs.WholeFrame.{FramePromise}
-use Rattle.label.proofs.SetLaws.{setAll-other, setAll-at}
 use Rattle.label.proofs.Worked.{computed, frame, cross, memory, line, whole, f, begun, one, two, junk, wide, wideWords, put, held}
 
 -- word j

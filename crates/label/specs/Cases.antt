@@ -1,9 +1,11 @@
--- Document 01's number for each cause, and its values for each case of an answer. A contract will say a promise of these.
+-- Document 01's number for each cause, and its values for each case of an answer. A contract says a promise of these.
 -- Assumes nothing.
 use Prim.Native.Nat.{ℕ}
 use Rattle.frame.specs.Plain.{Answer, fed, counted, refused}
 use Rattle.label.specs.declared.Cause.{Cause}
 use Rattle.label.specs.declared.Cause.the-variants as C
+use Rattle.label.specs.declared.Check.{Check}
+use Rattle.label.specs.declared.Check.the-variants as K
 use Rattle.label.specs.declared.FeedAnswer.{FeedAnswer}
 use Rattle.label.specs.declared.FeedAnswer.the-variants as F
 use Rattle.label.specs.declared.OpenAnswer.{OpenAnswer}
@@ -27,6 +29,11 @@ causeNumber C.Kind = 10
 abbrev pub openNumber : OpenAnswer → ℕ
 openNumber O.Accepted = 0
 openNumber (O.Refused c) = causeNumber c
+
+-- so a check of a call's arguments: 0 where it passes
+abbrev pub checkNumber : Check → ℕ
+checkNumber K.Passed = 0
+checkNumber (K.Failed c) = causeNumber c
 
 abbrev pub feedAnswer : FeedAnswer → Answer
 feedAnswer (F.Accepted l r j) = fed l (record { runs = r; joins = j })

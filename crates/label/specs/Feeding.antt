@@ -13,9 +13,9 @@ use Rattle.frame.specs.Touches.{touches}
 use Rattle.frame.specs.Causes.{feedCause}
 use Rattle.frame.specs.Plain.{Answer, fed, unless, kept}
 use Rattle.frame.specs.Words.{linePlace, startPlace, endPlace, lineStart, parentOf, storedRun, NoParent}
+use Rattle.frame.specs.Lists.{setAll}
 use Rattle.forest.specs.Forest.{rootOf}
 use Rattle.label.specs.declared.Session.{Session}
-use Rattle.label.specs.Lists.{setAll}
 use Rattle.label.specs.Record.{shapeOf, structureOf, linesOf, withFigures}
 use Rattle.label.specs.Sound.{sound}
 use Rattle.label.specs.Held.{figuresOf, groupingOf}

@@ -12,9 +12,9 @@ use Rattle.frame.specs.ChainRule.{nonzero, any, range}
 use Rattle.frame.specs.Kinds.{Number, Value, write}
 use Rattle.frame.specs.Plain.{Figures}
 use Rattle.frame.specs.Words.{lineStart, runStart, runEnd, parentOf}
+use Rattle.frame.specs.Lists.{lastBelow}
 use Rattle.forest.specs.Forest.{roots, numberIn, grouping}
 use Rattle.label.specs.declared.Session.{Session}
-use Rattle.label.specs.Lists.{lastBelow}
 use Rattle.label.specs.Record.{shapeOf, linesOf}
 
 -- the record's figures, as its answers give them

@@ -1,4 +1,3 @@
-pub mod Lists
 pub mod Record
 pub mod Sound
 pub mod Held
@@ -6,4 +5,5 @@ pub mod Cases
 pub mod Opening
 pub mod Feeding
 pub mod Reading
+pub mod Steps
 pub mod WholeFrame

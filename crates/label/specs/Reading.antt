@@ -9,9 +9,9 @@ use Rattle.frame.specs.Kinds.{Number, holds, Value}
 use Rattle.frame.specs.Causes.{readCause, sizesCause}
 use Rattle.frame.specs.Plain.{Answer, counted, unless, kept}
 use Rattle.frame.specs.Words.{namePlace, parentOf}
+use Rattle.frame.specs.Lists.{setAll}
 use Rattle.forest.specs.Forest.{numberIn}
 use Rattle.label.specs.declared.Session.{Session}
-use Rattle.label.specs.Lists.{setAll}
 use Rattle.label.specs.Record.{shapeOf, linesOf}
 use Rattle.label.specs.Sound.{sound}
 use Rattle.label.specs.Held.{figuresOf, rootCount, numbersHeld, sizesHeld}

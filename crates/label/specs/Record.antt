@@ -3,8 +3,8 @@
 use mathlib.Core.List.{List}
 use Prim.Native.Nat.{ℕ, _^_}
 use Rattle.frame.specs.Shape.{lines}
+use Rattle.frame.specs.Lists.{entries}
 use Rattle.label.specs.declared.Session.{Session}
-use Rattle.label.specs.Lists.{entries}
 
 -- the record's arrays: of the shape the first rank entries, of the structure the first 3^rank
 

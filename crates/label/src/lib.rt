@@ -1,7 +1,31 @@
-// The record, and what the calls answer. What each call promises is in specs/: Opening, Feeding, Reading, WholeFrame.
+// The record and its calls: opening, feeds, readings, sizes. What each call promises is in specs/: Opening, Feeding, Reading; no call
+// asks anything of its caller. WholeFrame has the promise of a whole frame, which is not written yet.
+//
+//     Session::open      a record of a shape, a structure and working memory
+//     Session::feed_T    the next lines of the frame, for each kind of cell
+//     Session::read_T    each cell's number, for each kind of number
+//     Session::sizes     each number's cell count
 //
 // The record is a value: a call takes it and hands it back. An enum holds no array, so an answer stands beside the record in a
 // struct. specs/Cases.antt gives document 01's number and values for each case.
+//
+// A call is a check and then the work: feed_check, read_check and sizes_check find the cause, and feed_sound_T, read_sound_T and
+// sizes_sound work on a record that is known to be sound.
+ghost use mathlib.Core.Path.{_≡_};
+ghost use mathlib.Core.Bool.{Bool};
+ghost use mathlib.Core.List.{List, map};
+ghost use Prim.Native.Nat.{ℕ, _-_, _≤_};
+ghost use lib.ListN.{length};
+ghost use Rattle.frame.specs.Causes.{openCause};
+ghost use Rattle.frame.specs.Kinds.{nz, nzℤ, nzF, Number, u8, u16, u32, largest};
+ghost use Rattle.frame.specs.Plain.{fed, counted};
+ghost use Rattle.label.specs.Cases.{openNumber, checkNumber, feedAnswer, readAnswer};
+ghost use Rattle.label.specs.Sound.{Sound, sound};
+ghost use Rattle.label.specs.Held.{figuresOf, rootCount, numbersHeld, sizesHeld};
+ghost use Rattle.label.specs.Opening.{OpenPromise, openRecord, blank};
+ghost use Rattle.label.specs.Feeding.{feedCauseOf, FeedPromise};
+ghost use Rattle.label.specs.Reading.{withNames, readCauseOf, sizesCauseOf, ReadPromise, SizesPromise};
+ghost use Rattle.label.specs.Steps.{Accepted, FeedExtracted, FeedDone, SomeExtracted, ReadAccepted};
 
 // Shape and structure, then lines fed, runs and joins, so far. Entries past the rank are 0 after an opening.
 pub struct Session {
@@ -72,4 +96,448 @@ pub struct Fed {
 pub struct Read {
     pub answer: ReadAnswer,
     pub session: Session,
+}
+
+// What a check of a call's arguments finds.
+enum Check {
+    Passed,
+    Failed(Cause),
+}
+
+// ---- opening
+
+impl Session {
+    // Opens a session: on success word 0 is written, and no other.
+    pub fn open(shape: &[usize], structure: &[u8], words: &mut [u32]) -> Opened
+        ensures { λ r. ⌜ OpenPromise (now (shape .entry)) (now (structure .entry)) (now (words .entry)) (openNumber (r .answer)) (r .session) (now (words .exit)) ⌝ }
+    {
+        match open_check(shape, structure, words.len()) {
+            Check::Failed(cause) => Opened {
+                answer: OpenAnswer::Refused(cause),
+                session: blank_record(),
+            },
+            Check::Passed => {
+                words[0] = 0;
+                Opened {
+                    answer: OpenAnswer::Accepted,
+                    session: open_record(shape, structure),
+                }
+            }
+        }
+    }
+}
+
+// 1 to 5, where `memory` is the count of words.
+fn open_check(shape: &[usize], structure: &[u8], memory: usize) -> Check
+    ensures { λ r. ⌜ checkNumber r ≡ openCause (now (shape .entry)) (now (structure .entry)) memory ⌝ }
+{
+    let rank = shape.len();
+    if geo::bad_rank(rank) {
+        return Check::Failed(Cause::Rank);
+    }
+    if structure.len() != geo::power3(rank) {
+        return Check::Failed(Cause::StructureLength);
+    }
+    let dims = geo::shape_of(shape);
+    if geo::has_zero(rank, dims) {
+        return Check::Failed(Cause::ZeroDimension);
+    }
+    if geo::too_large(rank, dims) {
+        return Check::Failed(Cause::TooLarge);
+    }
+    if memory < geo::words_needed(rank, dims, structure) {
+        return Check::Failed(Cause::Memory);
+    }
+    Check::Passed
+}
+
+// The record of an opening that has no cause.
+fn open_record(shape: &[usize], structure: &[u8]) -> Session
+    requires { ⌜ (length (now shape) ≤ 4) × (length (now structure) ≤ 81) ⌝ }
+    ensures { λ r. ⌜ r ≡ openRecord (now (shape .entry)) (now (structure .entry)) ⌝ }
+{
+    Session {
+        rank: shape.len(),
+        shape: geo::shape_of(shape),
+        structure: geo::structure_of(structure),
+        fed: 0,
+        runs: 0,
+        joins: 0,
+    }
+}
+
+// The record beside a refused opening.
+fn blank_record() -> Session
+    ensures { λ r. ⌜ r ≡ blank ⌝ }
+{
+    Session {
+        rank: 0,
+        shape: [0; 4],
+        structure: [0; 81],
+        fed: 0,
+        runs: 0,
+        joins: 0,
+    }
+}
+
+// ---- soundness
+
+impl Session {
+    // Whether the record is sound with these words, whatever both hold.
+    fn is_sound(self, words: &[u32]) -> bool
+        ensures { λ r. ⌜ r ≡ sound self (now (words .entry)) ⌝ }
+    {
+        if geo::bad_rank(self.rank) {
+            return false;
+        }
+        if geo::has_zero(self.rank, self.shape) {
+            return false;
+        }
+        if geo::too_large(self.rank, self.shape) {
+            return false;
+        }
+        if words.len() < geo::words_needed(self.rank, self.shape, &self.structure) {
+            return false;
+        }
+        let g = geo::geo_of(self.rank, self.shape, &self.structure);
+        if self.fed > g.lines {
+            return false;
+        }
+        sound::words_sound(
+            words,
+            g.lines,
+            g.width,
+            g.left,
+            self.fed,
+            self.runs,
+            self.joins,
+        )
+    }
+}
+
+// ---- feeding
+
+impl Session {
+    // 6, 7, 8.
+    fn feed_check(self, words: &[u32], k: usize, cells: usize) -> Check
+        ensures { λ r. ⌜ ((flags : List Bool) → length flags ≡ cells → checkNumber r ≡ feedCauseOf self (now (words .entry)) k flags) ⌝ }
+    {
+        if !self.is_sound(words) {
+            return Check::Failed(Cause::Unsound);
+        }
+        let g = geo::geo_of(self.rank, self.shape, &self.structure);
+        if k > g.lines - self.fed {
+            return Check::Failed(Cause::Lines);
+        }
+        if cells != k * g.width {
+            return Check::Failed(Cause::Cells);
+        }
+        Check::Passed
+    }
+}
+
+// The public feeds, one for each kind of cell.
+impl Session {
+    pub fn feed_u8(self, words: &mut [u32], k: usize, cells: &[u8]) -> Fed
+        ensures { λ r. ⌜ FeedPromise self (now (words .entry)) k (map nz (now (cells .entry))) (feedAnswer (r .answer)) (r .session) (now (words .exit)) ⌝ }
+    {
+        match self.feed_check(words, k, cells.len()) {
+            Check::Failed(cause) => Fed {
+                answer: FeedAnswer::Refused(cause),
+                session: self,
+            },
+            Check::Passed => accept_feed(self.feed_sound_u8(words, k, cells)),
+        }
+    }
+
+    pub fn feed_u16(self, words: &mut [u32], k: usize, cells: &[u16]) -> Fed
+        ensures { λ r. ⌜ FeedPromise self (now (words .entry)) k (map nz (now (cells .entry))) (feedAnswer (r .answer)) (r .session) (now (words .exit)) ⌝ }
+    {
+        match self.feed_check(words, k, cells.len()) {
+            Check::Failed(cause) => Fed {
+                answer: FeedAnswer::Refused(cause),
+                session: self,
+            },
+            Check::Passed => accept_feed(self.feed_sound_u16(words, k, cells)),
+        }
+    }
+
+    pub fn feed_i16(self, words: &mut [u32], k: usize, cells: &[i16]) -> Fed
+        ensures { λ r. ⌜ FeedPromise self (now (words .entry)) k (map nzℤ (now (cells .entry))) (feedAnswer (r .answer)) (r .session) (now (words .exit)) ⌝ }
+    {
+        match self.feed_check(words, k, cells.len()) {
+            Check::Failed(cause) => Fed {
+                answer: FeedAnswer::Refused(cause),
+                session: self,
+            },
+            Check::Passed => accept_feed(self.feed_sound_i16(words, k, cells)),
+        }
+    }
+
+    pub fn feed_f32(self, words: &mut [u32], k: usize, cells: &[f32]) -> Fed
+        ensures { λ r. ⌜ FeedPromise self (now (words .entry)) k (map nzF (now (cells .entry))) (feedAnswer (r .answer)) (r .session) (now (words .exit)) ⌝ }
+    {
+        match self.feed_check(words, k, cells.len()) {
+            Check::Failed(cause) => Fed {
+                answer: FeedAnswer::Refused(cause),
+                session: self,
+            },
+            Check::Passed => accept_feed(self.feed_sound_f32(words, k, cells)),
+        }
+    }
+}
+
+// Their work, on a record that is known to be sound and lines that the frame still has.
+impl Session {
+    fn feed_sound_u8(self, words: &mut [u32], k: usize, cells: &[u8]) -> Session
+        requires { ⌜ Accepted self (now words) k (map nz (now cells)) ⌝ }
+        ensures { λ r. ⌜ FeedDone self (now (words .entry)) k (map nz (now (cells .entry))) r (now (words .exit)) ⌝ }
+    {
+        let g = geo::geo_of(self.rank, self.shape, &self.structure);
+        let runs = block::extract_block_u8(
+            cells,
+            g.width,
+            !g.left,
+            words,
+            g.lines,
+            self.fed,
+            self.runs,
+            k,
+        );
+        self.unite(words, k, runs)
+    }
+
+    fn feed_sound_u16(self, words: &mut [u32], k: usize, cells: &[u16]) -> Session
+        requires { ⌜ Accepted self (now words) k (map nz (now cells)) ⌝ }
+        ensures { λ r. ⌜ FeedDone self (now (words .entry)) k (map nz (now (cells .entry))) r (now (words .exit)) ⌝ }
+    {
+        let g = geo::geo_of(self.rank, self.shape, &self.structure);
+        let runs = block::extract_block_u16(
+            cells,
+            g.width,
+            !g.left,
+            words,
+            g.lines,
+            self.fed,
+            self.runs,
+            k,
+        );
+        self.unite(words, k, runs)
+    }
+
+    fn feed_sound_i16(self, words: &mut [u32], k: usize, cells: &[i16]) -> Session
+        requires { ⌜ Accepted self (now words) k (map nzℤ (now cells)) ⌝ }
+        ensures { λ r. ⌜ FeedDone self (now (words .entry)) k (map nzℤ (now (cells .entry))) r (now (words .exit)) ⌝ }
+    {
+        let g = geo::geo_of(self.rank, self.shape, &self.structure);
+        let runs = block::extract_block_i16(
+            cells,
+            g.width,
+            !g.left,
+            words,
+            g.lines,
+            self.fed,
+            self.runs,
+            k,
+        );
+        self.unite(words, k, runs)
+    }
+
+    fn feed_sound_f32(self, words: &mut [u32], k: usize, cells: &[f32]) -> Session
+        requires { ⌜ Accepted self (now words) k (map nzF (now cells)) ⌝ }
+        ensures { λ r. ⌜ FeedDone self (now (words .entry)) k (map nzF (now (cells .entry))) r (now (words .exit)) ⌝ }
+    {
+        let g = geo::geo_of(self.rank, self.shape, &self.structure);
+        let runs = block::extract_block_f32(
+            cells,
+            g.width,
+            !g.left,
+            words,
+            g.lines,
+            self.fed,
+            self.runs,
+            k,
+        );
+        self.unite(words, k, runs)
+    }
+
+    // Unites the extracted lines with their neighbours, and gives the record afterwards. `runs` is the count of runs then.
+    fn unite(self, words: &mut [u32], k: usize, runs: usize) -> Session
+        requires { ⌜ SomeExtracted self k (now words) runs ⌝ }
+        ensures { λ r. ⌜ ((ws : List ℕ) (cells : List Bool) → FeedExtracted self ws k cells (now (words .entry)) runs → FeedDone self ws k cells r (now (words .exit))) ⌝ }
+    {
+        let g = geo::geo_of(self.rank, self.shape, &self.structure);
+        let dims = g.dims;
+        let joins = block::union_block(words, g.lines, dims, g.n, &self.structure, self.fed, k);
+        let mut s = self;
+        s.fed += k;
+        s.runs = runs;
+        s.joins += joins;
+        s
+    }
+}
+
+// A feed that was accepted answers the record's figures.
+fn accept_feed(session: Session) -> Fed
+    ensures { λ r. ⌜ (r .session ≡ session) × (feedAnswer (r .answer) ≡ fed (session .fed) (figuresOf session)) ⌝ }
+{
+    Fed {
+        answer: FeedAnswer::Accepted {
+            lines: session.fed,
+            runs: session.runs,
+            joins: session.joins,
+        },
+        session,
+    }
+}
+
+// ---- reading
+
+impl Session {
+    // 6, 9, 10, where `most` is the kind's largest number. n is runs - joins.
+    fn read_check(self, words: &[u32], places: usize, most: u64) -> Check
+        ensures { λ r. ⌜ ((kind : Number) → most ≡ largest kind → checkNumber r ≡ readCauseOf kind self (now (words .entry)) places) ⌝ }
+    {
+        if !self.is_sound(words) {
+            return Check::Failed(Cause::Unsound);
+        }
+        let g = geo::geo_of(self.rank, self.shape, &self.structure);
+        if places != g.lines * g.width {
+            return Check::Failed(Cause::Length);
+        }
+        if (self.runs - self.joins) as u64 > most {
+            return Check::Failed(Cause::Kind);
+        }
+        Check::Passed
+    }
+}
+
+// The public readings, one for each kind of number.
+impl Session {
+    pub fn read_u8(self, words: &mut [u32], out: &mut [u8]) -> Read
+        ensures { λ r. ⌜ ReadPromise u8 self (now (words .entry)) (now (out .entry)) (readAnswer (r .answer)) (r .session) (now (words .exit)) (now (out .exit)) ⌝ }
+    {
+        match self.read_check(words, out.len(), write::LabelU8::MAXV) {
+            Check::Failed(cause) => Read {
+                answer: ReadAnswer::Refused(cause),
+                session: self,
+            },
+            Check::Passed => {
+                self.read_sound_u8(words, out);
+                accept_read(self)
+            }
+        }
+    }
+
+    pub fn read_u16(self, words: &mut [u32], out: &mut [u16]) -> Read
+        ensures { λ r. ⌜ ReadPromise u16 self (now (words .entry)) (now (out .entry)) (readAnswer (r .answer)) (r .session) (now (words .exit)) (now (out .exit)) ⌝ }
+    {
+        match self.read_check(words, out.len(), write::LabelU16::MAXV) {
+            Check::Failed(cause) => Read {
+                answer: ReadAnswer::Refused(cause),
+                session: self,
+            },
+            Check::Passed => {
+                self.read_sound_u16(words, out);
+                accept_read(self)
+            }
+        }
+    }
+
+    pub fn read_u32(self, words: &mut [u32], out: &mut [u32]) -> Read
+        ensures { λ r. ⌜ ReadPromise u32 self (now (words .entry)) (now (out .entry)) (readAnswer (r .answer)) (r .session) (now (words .exit)) (now (out .exit)) ⌝ }
+    {
+        match self.read_check(words, out.len(), write::LabelU32::MAXV) {
+            Check::Failed(cause) => Read {
+                answer: ReadAnswer::Refused(cause),
+                session: self,
+            },
+            Check::Passed => {
+                self.read_sound_u32(words, out);
+                accept_read(self)
+            }
+        }
+    }
+}
+
+// Their work, on a record that is known to be sound and into a kind that holds n.
+impl Session {
+    fn read_sound_u8(self, words: &mut [u32], out: &mut [u8])
+        requires { ⌜ ReadAccepted u8 self (now words) (length (now out)) ⌝ }
+        ensures { λ _. ⌜ (now (words .exit) ≡ withNames self (now (words .entry))) × (now (out .exit) ≡ numbersHeld self (now (words .entry)) u8) ⌝ }
+    {
+        let g = geo::geo_of(self.rank, self.shape, &self.structure);
+        write::write_block_u8(words, g.lines, g.width, self.fed, out)
+    }
+
+    fn read_sound_u16(self, words: &mut [u32], out: &mut [u16])
+        requires { ⌜ ReadAccepted u16 self (now words) (length (now out)) ⌝ }
+        ensures { λ _. ⌜ (now (words .exit) ≡ withNames self (now (words .entry))) × (now (out .exit) ≡ numbersHeld self (now (words .entry)) u16) ⌝ }
+    {
+        let g = geo::geo_of(self.rank, self.shape, &self.structure);
+        write::write_block_u16(words, g.lines, g.width, self.fed, out)
+    }
+
+    fn read_sound_u32(self, words: &mut [u32], out: &mut [u32])
+        requires { ⌜ ReadAccepted u32 self (now words) (length (now out)) ⌝ }
+        ensures { λ _. ⌜ (now (words .exit) ≡ withNames self (now (words .entry))) × (now (out .exit) ≡ numbersHeld self (now (words .entry)) u32) ⌝ }
+    {
+        let g = geo::geo_of(self.rank, self.shape, &self.structure);
+        write::write_block_u32(words, g.lines, g.width, self.fed, out)
+    }
+}
+
+// A reading or a size call that was accepted answers n, and the record's figures.
+fn accept_read(session: Session) -> Read
+    requires { ⌜ session .joins ≤ session .runs ⌝ }
+    ensures { λ r. ⌜ (r .session ≡ session) × (readAnswer (r .answer) ≡ counted (session .runs - session .joins) (figuresOf session)) ⌝ }
+{
+    Read {
+        answer: ReadAnswer::Accepted {
+            n: session.runs - session.joins,
+            runs: session.runs,
+            joins: session.joins,
+        },
+        session,
+    }
+}
+
+// ---- sizes
+
+impl Session {
+    // 6, 9.
+    fn sizes_check(self, words: &[u32], places: usize) -> Check
+        ensures { λ r. ⌜ checkNumber r ≡ sizesCauseOf self (now (words .entry)) places ⌝ }
+    {
+        if !self.is_sound(words) {
+            return Check::Failed(Cause::Unsound);
+        }
+        if places != self.runs - self.joins {
+            return Check::Failed(Cause::Length);
+        }
+        Check::Passed
+    }
+
+    pub fn sizes(self, words: &mut [u32], sizes: &mut [u32]) -> Read
+        ensures { λ r. ⌜ SizesPromise self (now (words .entry)) (now (sizes .entry)) (readAnswer (r .answer)) (r .session) (now (words .exit)) (now (sizes .exit)) ⌝ }
+    {
+        match self.sizes_check(words, sizes.len()) {
+            Check::Failed(cause) => Read {
+                answer: ReadAnswer::Refused(cause),
+                session: self,
+            },
+            Check::Passed => {
+                self.sizes_sound(words, sizes);
+                accept_read(self)
+            }
+        }
+    }
+
+    fn sizes_sound(self, words: &mut [u32], sizes: &mut [u32])
+        requires { ⌜ Sound self (now words) × (length (now sizes) ≡ rootCount self (now words)) ⌝ }
+        ensures { λ _. ⌜ (now (words .exit) ≡ withNames self (now (words .entry))) × (now (sizes .exit) ≡ sizesHeld self (now (words .entry))) ⌝ }
+    {
+        let g = geo::geo_of(self.rank, self.shape, &self.structure);
+        write::size_block(words, g.lines, self.runs, sizes)
+    }
 }

@@ -63,10 +63,10 @@ module _ (L : ℕ) (ws : List ℕ) where
 -- ---- the part lent to `link`, and handed back
 
 -- `&mut words[a..]`, and the words once it is back
-tail-mid : (a : ℕ) (ws : List ℕ) → midOf a (length ws - a) ws ≡ drop a ws
+pub tail-mid : (a : ℕ) (ws : List ℕ) → midOf a (length ws - a) ws ≡ drop a ws
 tail-mid a ws = take-all (length ws - a) (drop a ws) (simp length-drop (omega arith))
 
-tail-put : (a : ℕ) (ws p : List ℕ) → a ≤ length ws → putMid a (length ws - a) ws p ≡ take a ws ++ p
+pub tail-put : (a : ℕ) (ws p : List ℕ) → a ≤ length ws → putMid a (length ws - a) ws p ≡ take a ws ++ p
 tail-put a ws p h =
     let e : postOf a (length ws - a) ws ≡ [] = drop-of-length-le (drop a ws) {i = length ws - a} (simp length-drop (omega arith)) in
     ap (λ (r : List ℕ). take a ws ++ (p ++ r)) e ∙ ap (λ (r : List ℕ). take a ws ++ r) (append-nil p)

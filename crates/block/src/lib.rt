@@ -1,0 +1,155 @@
+// Lines of a feed: their runs are extracted, then united with their neighbours. Nothing here knows a record.
+//
+//     extract_block_T   the runs of new lines, for each kind of cell: line starts, starts and ends
+//     union_block       the union of new lines with their neighbours, once their runs are there: parents
+ghost use mathlib.Core.Bool.{not};
+ghost use mathlib.Core.List.{map};
+ghost use Rattle.frame.specs.Kinds.{nz, nzℤ, nzF};
+ghost use Rattle.block.specs.Blocks.{BlockRoom, Block, BlockReady, BlockUnited, ResetReady, ResetIn};
+
+// ---- extraction, for each kind of cell: the runs of `k` lines after `fed` lines with `runs` runs; how many runs there are then.
+// `split` says that the left byte is zero
+
+pub fn extract_block_u8(
+    cells: &[u8],
+    width: usize,
+    split: bool,
+    words: &mut [u32],
+    lines: usize,
+    fed: usize,
+    runs: usize,
+    k: usize,
+) -> usize
+    requires { ⌜ BlockRoom (not split) width lines fed runs k (map nz (now cells)) (now words) ⌝ }
+    ensures { λ n. ⌜ Block (not split) width lines fed runs k (map nz (now (cells .entry))) (now (words .entry)) (now (words .exit)) n ⌝ }
+{
+    let base = lines + 1;
+    let mut n = runs;
+    let mut i: usize = 0;
+    while i < k {
+        let a = i * width;
+        let e = a + width;
+        n += runs::extract_line_u8(&cells[a..e], split, words, base + frame::STRIDE * n);
+        words[fed + i + 1] = n as u32;
+        i += 1;
+    }
+    n
+}
+
+pub fn extract_block_u16(
+    cells: &[u16],
+    width: usize,
+    split: bool,
+    words: &mut [u32],
+    lines: usize,
+    fed: usize,
+    runs: usize,
+    k: usize,
+) -> usize
+    requires { ⌜ BlockRoom (not split) width lines fed runs k (map nz (now cells)) (now words) ⌝ }
+    ensures { λ n. ⌜ Block (not split) width lines fed runs k (map nz (now (cells .entry))) (now (words .entry)) (now (words .exit)) n ⌝ }
+{
+    let base = lines + 1;
+    let mut n = runs;
+    let mut i: usize = 0;
+    while i < k {
+        let a = i * width;
+        let e = a + width;
+        n += runs::extract_line_u16(&cells[a..e], split, words, base + frame::STRIDE * n);
+        words[fed + i + 1] = n as u32;
+        i += 1;
+    }
+    n
+}
+
+pub fn extract_block_i16(
+    cells: &[i16],
+    width: usize,
+    split: bool,
+    words: &mut [u32],
+    lines: usize,
+    fed: usize,
+    runs: usize,
+    k: usize,
+) -> usize
+    requires { ⌜ BlockRoom (not split) width lines fed runs k (map nzℤ (now cells)) (now words) ⌝ }
+    ensures { λ n. ⌜ Block (not split) width lines fed runs k (map nzℤ (now (cells .entry))) (now (words .entry)) (now (words .exit)) n ⌝ }
+{
+    let base = lines + 1;
+    let mut n = runs;
+    let mut i: usize = 0;
+    while i < k {
+        let a = i * width;
+        let e = a + width;
+        n += runs::extract_line_i16(&cells[a..e], split, words, base + frame::STRIDE * n);
+        words[fed + i + 1] = n as u32;
+        i += 1;
+    }
+    n
+}
+
+pub fn extract_block_f32(
+    cells: &[f32],
+    width: usize,
+    split: bool,
+    words: &mut [u32],
+    lines: usize,
+    fed: usize,
+    runs: usize,
+    k: usize,
+) -> usize
+    requires { ⌜ BlockRoom (not split) width lines fed runs k (map nzF (now cells)) (now words) ⌝ }
+    ensures { λ n. ⌜ Block (not split) width lines fed runs k (map nzF (now (cells .entry))) (now (words .entry)) (now (words .exit)) n ⌝ }
+{
+    let base = lines + 1;
+    let mut n = runs;
+    let mut i: usize = 0;
+    while i < k {
+        let a = i * width;
+        let e = a + width;
+        n += runs::extract_line_f32(&cells[a..e], split, words, base + frame::STRIDE * n);
+        words[fed + i + 1] = n as u32;
+        i += 1;
+    }
+    n
+}
+
+// ---- union
+
+// Unites each of the `k` lines after the first `fed` with its neighbours; how many of those unions were joins. The new runs are at
+// first their own parents.
+pub fn union_block(
+    words: &mut [u32],
+    lines: usize,
+    dims: [usize; 3],
+    n: usize,
+    structure: &[u8],
+    fed: usize,
+    k: usize,
+) -> usize
+    requires { ⌜ BlockReady n dims lines (now structure) (now words) fed k ⌝ }
+    ensures { λ t. ⌜ BlockUnited n dims lines (now (structure .entry)) (now (words .entry)) (now (words .exit)) fed k t ⌝ }
+{
+    if k == 0 {
+        return 0;
+    }
+    reset_block(words, lines, fed, k);
+    let mut joins: usize = 0;
+    let mut done: usize = 0;
+    while done < k {
+        joins += link::union_line(words, lines, dims, n, structure, fed + done);
+        done += 1;
+    }
+    joins
+}
+
+// Makes the runs of the `k` lines after the first `fed` their own parents.
+fn reset_block(words: &mut [u32], lines: usize, fed: usize, k: usize)
+    requires { ⌜ ResetReady lines (now words) fed k ⌝ }
+    ensures { λ _. ⌜ ResetIn lines (now (words .entry)) (now (words .exit)) fed k ⌝ }
+{
+    let base = lines + 1;
+    let a = words[fed] as usize;
+    let b = words[fed + k] as usize;
+    forest::reset(&mut words[base..], a, b)
+}

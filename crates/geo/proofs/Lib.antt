@@ -1,0 +1,5 @@
+pub mod CopyLaws
+pub mod ProductLaws
+pub mod DimsLaws
+pub mod LeftLaws
+pub mod GeoLaws

@@ -1,0 +1,208 @@
+// Shape and structure as numbers, as in the Rust's `Geo`. A shape is an array of four dimensions of which the first `rank` count; a
+// structure is lent, and its first 3^rank bytes count.
+//
+//     geo_of                           leading dimensions, lines, width and left byte, where the shape is not too large
+//     words_needed                     the words of memory that a session needs
+//     bad_rank, has_zero, too_large    causes 1, 3 and 4
+//     shape_of, structure_of           the arrays of a lent shape and structure
+ghost use mathlib.Core.Path.{_≡_};
+ghost use mathlib.Core.Bool.{false, _||_};
+ghost use mathlib.Core.List.{_++_};
+ghost use Prim.Native.Nat.{_-_, _*_, _^_, _≤_, _<_, min};
+ghost use lib.Dec.{eqb, ltb};
+ghost use lib.ListN.{length, replicate};
+ghost use Rattle.frame.specs.Lists.{entries, padded};
+ghost use Rattle.frame.specs.Shape.{size, width, leading};
+ghost use Rattle.frame.specs.Structure.{on, leftCode};
+ghost use Rattle.frame.specs.Memory.{mostRuns, wordsNeeded};
+ghost use Rattle.frame.specs.Causes.{badRank, hasZero, tooLarge};
+ghost use Rattle.geo.specs.Geometry.{GeoReady, GeoOf};
+
+// The first width, and the first count of lines or of cells, that is too large.
+const WIDTH_LIMIT: usize = 2147483647;
+
+const LIMIT: usize = 4294967293;
+
+// The leading dimensions as three, those before the first being 1, and how many there are; lines, width, and whether the left byte
+// is nonzero.
+pub struct Geo {
+    pub n: usize,
+    pub dims: [usize; 3],
+    pub lines: usize,
+    pub width: usize,
+    pub left: bool,
+}
+
+pub fn geo_of(rank: usize, shape: [usize; 4], structure: &[u8]) -> Geo
+    requires { ⌜ GeoReady rank shape (now structure) ⌝ }
+    ensures { λ g. ⌜ GeoOf rank shape (now (structure .entry)) g ⌝ }
+{
+    let dims = leading_dims(rank, shape);
+    let lines = limited_lines(dims);
+    let width = last_dim(rank, shape);
+    let left = left_byte(rank, structure);
+    Geo {
+        n: rank - 1,
+        dims,
+        lines,
+        width,
+        left,
+    }
+}
+
+// L + 1 + 4 × L × h.
+pub fn words_needed(rank: usize, shape: [usize; 4], structure: &[u8]) -> usize
+    requires { ⌜ GeoReady rank shape (now structure) ⌝ }
+    ensures { λ r. ⌜ r ≡ wordsNeeded (entries rank shape) (entries (3 ^ rank) (now (structure .entry))) ⌝ }
+{
+    let g = geo_of(rank, shape, structure);
+    let h = most_runs(g.left, g.width);
+    g.lines + 1 + frame::STRIDE * g.lines * h
+}
+
+// h, the most runs that a line of `w` cells can have: where the left byte is nonzero, adjacent cells are of one run.
+fn most_runs(left: bool, w: usize) -> usize
+    requires { ⌜ w < 2147483647 ⌝ }
+    ensures { λ r. ⌜ r ≡ mostRuns left w ⌝ }
+{
+    if left {
+        return (w + 1) / 2;
+    }
+    w
+}
+
+// ---- causes of a refusal
+
+// 1: rank 0 or above 4.
+pub fn bad_rank(rank: usize) -> bool
+    ensures { λ r. ⌜ r ≡ (eqb rank 0 || ltb 4 rank) ⌝ }
+{
+    (rank == 0) | (rank > 4)
+}
+
+// 3: a leading dimension is 0.
+pub fn has_zero(rank: usize, shape: [usize; 4]) -> bool
+    requires { ⌜ badRank (entries rank shape) ≡ false ⌝ }
+    ensures { λ r. ⌜ r ≡ hasZero (leading (entries rank shape)) ⌝ }
+{
+    let dims = leading_dims(rank, shape);
+    (dims[0] == 0) | (dims[1] == 0) | (dims[2] == 0)
+}
+
+// 4: w ≥ 2,147,483,647, or L or L × w ≥ 4,294,967,293. Products that do not fit are too large.
+pub fn too_large(rank: usize, shape: [usize; 4]) -> bool
+    requires { ⌜ badRank (entries rank shape) ≡ false ⌝ }
+    ensures { λ r. ⌜ r ≡ tooLarge (entries rank shape) ⌝ }
+{
+    let w = last_dim(rank, shape);
+    let lines = limited_lines(leading_dims(rank, shape));
+    let cells = product(lines, w);
+    (w >= WIDTH_LIMIT) | (lines >= LIMIT) | (cells >= LIMIT)
+}
+
+// ---- dimensions
+
+// The leading dimensions as three, those before the first being 1.
+fn leading_dims(rank: usize, shape: [usize; 4]) -> [usize; 3]
+    requires { ⌜ badRank (entries rank shape) ≡ false ⌝ }
+    ensures { λ r. ⌜ r ≡ replicate (4 - rank) 1 ++ leading (entries rank shape) ⌝ }
+{
+    if rank == 1 {
+        return [1, 1, 1];
+    }
+    if rank == 2 {
+        return [1, 1, shape[0]];
+    }
+    if rank == 3 {
+        return [1, shape[0], shape[1]];
+    }
+    [shape[0], shape[1], shape[2]]
+}
+
+// The width w.
+fn last_dim(rank: usize, shape: [usize; 4]) -> usize
+    requires { ⌜ badRank (entries rank shape) ≡ false ⌝ }
+    ensures { λ r. ⌜ r ≡ width (entries rank shape) ⌝ }
+{
+    shape[rank - 1]
+}
+
+// The product of three dimensions, or the limit if that is less.
+fn limited_lines(dims: [usize; 3]) -> usize
+    ensures { λ r. ⌜ r ≡ min (size dims) 4294967293 ⌝ }
+{
+    product(product(product(1, dims[0]), dims[1]), dims[2])
+}
+
+// The product of two numbers, or the limit if that is less. Of two numbers up to the limit it fits a usize.
+fn product(a: usize, b: usize) -> usize
+    requires { ⌜ a ≤ 4294967293 ⌝ }
+    ensures { λ r. ⌜ r ≡ min (a * b) 4294967293 ⌝ }
+{
+    if a == 0 {
+        return 0;
+    }
+    if b >= LIMIT {
+        return LIMIT;
+    }
+    let p = a * b;
+    if p >= LIMIT {
+        return LIMIT;
+    }
+    p
+}
+
+// ---- structure
+
+// Whether the left byte, the one before the centre, is nonzero.
+fn left_byte(rank: usize, structure: &[u8]) -> bool
+    requires { ⌜ (1 ≤ rank) × (rank ≤ 4) × (3 ^ rank ≤ length (now structure)) ⌝ }
+    ensures { λ r. ⌜ r ≡ on (now (structure .entry)) (leftCode rank) ⌝ }
+{
+    structure[power3(rank) / 2 - 1] != 0
+}
+
+// 3^rank.
+pub fn power3(rank: usize) -> usize
+    requires { ⌜ (1 ≤ rank) × (rank ≤ 4) ⌝ }
+    ensures { λ r. ⌜ r ≡ 3 ^ rank ⌝ }
+{
+    if rank == 1 {
+        return 3;
+    }
+    if rank == 2 {
+        return 9;
+    }
+    if rank == 3 {
+        return 27;
+    }
+    81
+}
+
+// ---- the arrays of a lent shape and structure: the entries past it are 0
+
+pub fn shape_of(shape: &[usize]) -> [usize; 4]
+    requires { ⌜ length (now shape) ≤ 4 ⌝ }
+    ensures { λ r. ⌜ r ≡ padded 4 (now (shape .entry)) ⌝ }
+{
+    let mut out = [0usize; 4];
+    let mut i = 0usize;
+    while i < shape.len() {
+        out[i] = shape[i];
+        i += 1;
+    }
+    out
+}
+
+pub fn structure_of(structure: &[u8]) -> [u8; 81]
+    requires { ⌜ length (now structure) ≤ 81 ⌝ }
+    ensures { λ r. ⌜ r ≡ padded 81 (now (structure .entry)) ⌝ }
+{
+    let mut out = [0u8; 81];
+    let mut i = 0usize;
+    while i < structure.len() {
+        out[i] = structure[i];
+        i += 1;
+    }
+    out
+}

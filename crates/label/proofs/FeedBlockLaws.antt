@@ -1,0 +1,313 @@
+-- A feed's lines, extracted and united with their neighbours, leave the words and the joins that a feed promises.
+-- Assumes nothing.
+use mathlib.Core.Path.{_≡_, refl, sym, ap, ap₂, _∙_, subst}
+use mathlib.Core.Bool.{Bool, true, false, not, cond}
+use mathlib.Core.List.{List, _++_}
+use Prim.Native.Nat.{ℕ, suc, _+_, _-_, _*_, _^_, _≤_, _<_}
+use native.Mathlib.Nat.{le-refl, mul-assoc}
+use native.Mathlib.Omega.{arith}
+use borrow.Author.Tests.{leb-true, leb-false, ltb-true, ltb-false}
+use lib.Dec.{ltb, leb}
+use lib.ListN.{length, getD}
+use lib.Seq.{ext-getD}
+use Rattle.groups.specs.Groups.{Edge, rep, joins, visit, gather}
+use Rattle.groups.proofs.CountLaws.{count-most}
+use Rattle.frame.specs.Shape.{size, width, leading}
+use Rattle.frame.specs.Structure.{leftOn}
+use Rattle.frame.specs.Runs.{runs, beginsRun, Run, none, frameRuns, allRuns, runsBefore, frameRun}
+use Rattle.frame.specs.Touches.{touches}
+use Rattle.frame.specs.Memory.{stride, perLine, wordsNeeded}
+use Rattle.frame.specs.Words.{startPlace, endPlace, parentPlace, lineStart, parentOf, storedRun, NoParent}
+use Rattle.frame.proofs.ShapeLaws.{Fits, length-leading}
+use Rattle.frame.proofs.EntryLaws.{length-entries, getD-entries}
+use Rattle.frame.proofs.FrameRunLaws.{start-le, run-first, runs-all}
+use Rattle.frame.proofs.TouchLaws.{touches-same, touches-bytes}
+use Rattle.forest.specs.Forest.{own, nonRoots, grouping}
+use Rattle.forest.proofs.ForestLaws.{grouping-joins}
+use Rattle.forest.proofs.ResetLaws.{grouping-same}
+use Rattle.link.specs.Sweeps.{InOrder}
+use Rattle.link.specs.Lines.{leadingOf, ThreeDims}
+use Rattle.geo.specs.declared.Geo.{Geo}
+use Rattle.geo.specs.Geometry.{GeoOf}
+use Rattle.block.specs.Blocks.{linesRuns, BlockRoom, Block, BlockReady, touchesFrom, BlockUnited}
+use Rattle.label.specs.declared.Session.{Session}
+use Rattle.label.specs.Record.{shapeOf, structureOf, linesOf, withFigures}
+use Rattle.label.specs.Sound.{Sound}
+use Rattle.label.specs.Held.{cellsOf}
+use Rattle.label.specs.Feeding.{runsAfter, startAfter, runAfter, feedTouches, feedEdges, feedRecord, FeedWords}
+use Rattle.label.specs.Steps.{Accepted, FeedExtracted, FeedDone}
+use Rattle.label.proofs.AcceptedLaws.{accepted-fits}
+use Rattle.label.proofs.RecordGeometry.{geo-lines, geo-width, geo-left}
+use Rattle.label.proofs.StoreLaws.{Stores}
+use Rattle.label.proofs.StoredSound.{stores-ordered}
+use Rattle.label.proofs.SoundCells.{sound-stores}
+use Rattle.label.proofs.FeedWordLaws.{Aside, Wrote, wrote-others}
+use Rattle.label.proofs.FeedLaws.{fits-all, runs-after, few-after, room, room-lines, wrote-stores, touches-after, joins-after}
+use Rattle.label.proofs.FitLaws.{limits}
+
+module _ (s : Session) (ws : List ℕ) (k : ℕ) (more : List Bool) (G : Accepted s ws k more) where
+  -- the record's shape, structure, L, w, and whether its left byte is nonzero; the cells that the words hold
+  abbrev shape : List ℕ
+  shape = shapeOf s
+
+  abbrev structure : List ℕ
+  structure = structureOf s
+
+  abbrev L : ℕ
+  L = linesOf s
+
+  abbrev w : ℕ
+  w = width (shapeOf s)
+
+  abbrev left : Bool
+  left = leftOn (shapeOf s) (structureOf s)
+
+  abbrev cells : List Bool
+  cells = cellsOf s ws
+
+  S : Sound s ws
+  S = G .is-sound
+
+  H : Stores s ws cells
+  H = sound-stores s ws S
+
+  F : Fits shape k more
+  F = accepted-fits s ws k more G
+
+  below : s .fed + k ≤ L
+  below = let b = S .within in let f = G .few in omega arith
+
+  -- ---- extraction
+
+  lines-runs : (i : ℕ) → linesRuns left w more i ≡ allRuns shape structure more i
+  unfolding linesRuns allRuns frameRuns
+  lines-runs i = refl
+
+  lines-length : (i : ℕ) → length (linesRuns left w more i) ≡ runsBefore shape structure more i
+  unfolding runsBefore
+  lines-length i = ap length (lines-runs i)
+
+  new-runs : length (linesRuns left w more k) ≡ runs shape structure more
+  new-runs = lines-length k ∙ sym (runs-all shape structure more k F)
+
+  after-is : s .runs + length (linesRuns left w more k) ≡ runsAfter s more
+  unfolding runsAfter
+  after-is = omega (arith, new-runs)
+
+  room-all : L + 1 + stride * runsAfter s more ≤ length ws
+  unfolding wordsNeeded
+  room-all = omega (arith, S .memory, few-after s ws cells H k more (G .few) (G .whole), mul-assoc stride L (perLine shape structure))
+
+  few : runsAfter s more < 4294967293
+  unfolding runs
+  few =
+      let all = runs-all shape structure (cells ++ more) (s .fed + k) (fits-all s ws cells H k more (G .few) (G .whole)) in
+      omega (arith, runs-after s ws cells H k more (G .few) (G .whole), all, count-most (beginsRun shape structure (cells ++ more)) (size shape), limits s ws S .2)
+
+  pub feed-lines-fit : s .fed + k < 4294967293
+  feed-lines-fit = omega (arith, below, limits s ws S .1)
+
+  pub block-room : BlockRoom left w L (s .fed) (s .runs) k more ws
+  block-room = record {
+    whole = G .whole;
+    within = below;
+    short = limits s ws S .0;
+    room = rw after-is room-all;
+    small = rw after-is (omega (arith, few));
+  }
+
+  module _ (ws₁ : List ℕ) (n : ℕ) (B : Block left w L (s .fed) (s .runs) k more ws ws₁ n) where
+    pub extracted-count : n ≡ runsAfter s more
+    extracted-count = B .counted ∙ after-is
+
+    -- a word that is no new line start, and of no new run the start or the end
+    stands : (j : ℕ) → Aside s k more j → getD ws₁ j 0 ≡ getD ws j 0
+    stands j A = B .others j (record {
+      no-line = A .no-line;
+      no-start = λ r h. A .no-start (s .runs + r) (omega arith) (omega (arith, h, after-is));
+      no-end = λ r h. A .no-end (s .runs + r) (omega arith) (omega (arith, h, after-is));
+    })
+
+    old-line : (ℓ : ℕ) → ℓ ≤ s .fed → lineStart ws₁ ℓ ≡ lineStart ws ℓ
+    old-line ℓ h = let f = S .within in stands ℓ (record { no-line = λ i l e. omega arith; no-start = λ r a b e. omega arith; no-end = λ r a b e. omega arith })
+
+    old-run : (r : ℕ) → r < s .runs → storedRun L ws₁ r ≡ storedRun L ws r
+    old-run r h =
+        ap₂ (λ (x : ℕ) (y : ℕ). record { start = x; end = y })
+        (stands (startPlace L r) (record { no-line = λ i l e. omega (arith, below); no-start = λ x a b e. omega arith; no-end = λ x a b e. omega arith }))
+        (stands (endPlace L r) (record { no-line = λ i l e. omega (arith, below); no-start = λ x a b e. omega arith; no-end = λ x a b e. omega arith }))
+
+    parents-stand : (r : ℕ) → parentOf L ws₁ r ≡ parentOf L ws r
+    parents-stand r = stands (parentPlace L r) (record { no-line = λ i l e. omega (arith, below); no-start = λ x a b e. omega arith; no-end = λ x a b e. omega arith })
+
+    line-after : (ℓ : ℕ) → ℓ ≤ s .fed + k → lineStart ws₁ ℓ ≡ startAfter s ws more ℓ
+    unfolding startAfter
+    line-after ℓ h = go (leb ℓ (s .fed)) refl
+      where
+        go : (b : Bool) → leb ℓ (s .fed) ≡ b → lineStart ws₁ ℓ ≡ cond b (lineStart ws ℓ) (s .runs + runsBefore shape structure more (ℓ - s .fed))
+        go true e = old-line ℓ (leb-true ℓ (s .fed) e)
+        go false e =
+            let l = leb-false ℓ (s .fed) e in
+            let i : ℓ - s .fed - 1 < k = omega arith in
+            let q : s .fed + suc (ℓ - s .fed - 1) ≡ ℓ = omega arith in
+            let d : suc (ℓ - s .fed - 1) ≡ ℓ - s .fed = omega arith in
+            subst (λ (x : ℕ). lineStart ws₁ x ≡ s .runs + runsBefore shape structure more (ℓ - s .fed)) q
+            (B .lined (ℓ - s .fed - 1) i ∙ ap (λ (x : ℕ). s .runs + x) (lines-length (suc (ℓ - s .fed - 1)) ∙ ap (runsBefore shape structure more) d))
+
+    run-after : (r : ℕ) → r < runsAfter s more → storedRun L ws₁ r ≡ runAfter s ws more r
+    unfolding runAfter
+    run-after r h = go (ltb r (s .runs)) refl
+      where
+        go : (b : Bool) → ltb r (s .runs) ≡ b → storedRun L ws₁ r ≡ cond b (storedRun L ws r) (frameRun shape structure more (r - s .runs))
+        go true e = old-run r (ltb-true r (s .runs) e)
+        go false e =
+            let l = ltb-false r (s .runs) e in
+            let i : r - s .runs < length (linesRuns left w more k) = omega (arith, after-is, h) in
+            let q : s .runs + (r - s .runs) ≡ r = omega arith in
+            subst (λ (x : ℕ). storedRun L ws₁ x ≡ frameRun shape structure more (r - s .runs)) q
+            (B .ran (r - s .runs) i ∙ ap (λ (us : List Run). getD us (r - s .runs) none) (lines-runs k) ∙ sym (run-first shape structure more k (r - s .runs) (F .below) (rw (← lines-length k) i)))
+
+    wrote₁ : Wrote s ws k more ws₁
+    wrote₁ = record { lined = line-after; ran = run-after; stands = λ j A free. stands j A }
+
+    stores₁ : Stores (feedRecord s ws k more) ws₁ (cells ++ more)
+    stores₁ = wrote-stores s ws cells H k more (G .few) (G .whole) ws₁ wrote₁
+
+    -- the runs before the new lines, and all of them
+    fed-start : lineStart ws₁ (s .fed) ≡ s .runs
+    fed-start = old-line (s .fed) (le-refl (s .fed)) ∙ S .words .last
+
+    last-start : lineStart ws₁ (s .fed + k) ≡ runsAfter s more
+    unfolding feedRecord
+    last-start = stores₁ .starts (s .fed + k) (le-refl (s .fed + k)) ∙ sym (stores₁ .runs-are)
+
+    -- no lines: nothing is written
+    none-written : k ≡ 0 → ws₁ ≡ ws
+    none-written z =
+        let no-runs : length (linesRuns left w more k) ≡ 0 = rw z (unfold linesRuns gather in refl) in
+        ext-getD 0 ws₁ ws (B .long) (λ j h. B .others j (record { no-line = λ i l e. omega arith; no-start = λ r l e. omega (arith, no-runs); no-end = λ r l e. omega (arith, no-runs) }))
+
+    -- ---- union
+
+    module _ (g : Geo) (K : GeoOf (s .rank) (s .shape) (s .structure) g) (long : 3 ^ s .rank ≤ length (s .structure)) where
+      sorted : (m : ℕ) → m < s .fed + k → InOrder (storedRun L ws₁) (lineStart ws₁ m) (lineStart ws₁ (suc m))
+      unfolding feedRecord shapeOf
+      sorted m h = stores-ordered (feedRecord s ws k more) ws₁ (cells ++ more) stores₁ m h
+
+      lines-is : g .lines ≡ L
+      unfolding shapeOf
+      lines-is = K .lines-is
+
+      pub block-ready : BlockReady (g .n) (g .dims) L (s .structure) ws₁ (s .fed) k
+      block-ready = record {
+        leading = subst (ThreeDims (g .n) (g .dims)) lines-is (K .three);
+        bytes = rw (← K .rank-is) long;
+        within = below;
+        room = rw (last-start, B .long) room-all;
+        sorted = sorted;
+        parents = λ r h. rw (parents-stand r) (S .words .parents r (rw (← fed-start) h));
+      }
+
+      -- the touches of the new lines are those of the promise
+      touches-are : touchesFrom (g .n) (g .dims) L (s .structure) ws₁ (s .fed) k ≡ feedTouches s ws k more
+      touches-are =
+          ap (λ (ds : List ℕ). touches ds (s .structure) (lineStart ws₁) (storedRun L ws₁) (s .fed) k) leading-is
+          ∙ touches-bytes (leading shape) (s .structure) structure (lineStart ws₁) (storedRun L ws₁) first-bytes (s .fed) k
+          ∙ sym (touches-same (leading shape) structure (runsBefore shape structure (cells ++ more)) (lineStart ws₁) (frameRun shape structure (cells ++ more)) (storedRun L ws₁) (s .fed + k) starts (start-le shape structure (cells ++ more)) listed below (s .fed) k (le-refl (s .fed + k)))
+          ∙ sym (touches-after s ws cells H k more (G .few) (G .whole))
+        where
+          leading-is : leadingOf (g .n) (g .dims) ≡ leading shape
+          leading-is = unfold shapeOf in K .leading-is
+
+          rank-leading : s .rank ≡ suc (length (leading shape))
+          rank-leading =
+              let e : length shape ≡ s .rank = unfold shapeOf in length-entries (s .rank) (s .shape) in
+              sym e ∙ length-leading shape (F .ranked)
+
+          first-bytes : (c : ℕ) → c < 3 ^ suc (length (leading shape)) → getD (s .structure) c 0 ≡ getD structure c 0
+          first-bytes c h = unfold structureOf in sym (getD-entries (3 ^ s .rank) (s .structure) c (rw rank-leading h))
+
+          starts : (ℓ : ℕ) → ℓ ≤ s .fed + k → runsBefore shape structure (cells ++ more) ℓ ≡ lineStart ws₁ ℓ
+          starts ℓ h = sym (unfold feedRecord shapeOf structureOf in stores₁ .starts ℓ h)
+
+          listed : (r : ℕ) → r < runsBefore shape structure (cells ++ more) (s .fed + k) → frameRun shape structure (cells ++ more) r ≡ storedRun L ws₁ r
+          listed r h = sym (unfold feedRecord shapeOf structureOf in stores₁ .listed r (rw (runs-after s ws cells H k more (G .few) (G .whole)) h))
+
+      module _ (ws₂ : List ℕ) (t : ℕ) (U : BlockUnited (g .n) (g .dims) L (s .structure) ws₁ ws₂ (s .fed) k t) where
+        edges-are : visit (touchesFrom (g .n) (g .dims) L (s .structure) ws₁ (s .fed) k) (grouping (parentOf L ws₁) (lineStart ws₁ (s .fed))) ≡ feedEdges s ws k more
+        unfolding feedEdges
+        edges-are = ap₂ visit touches-are (ap (grouping (parentOf L ws₁)) fed-start ∙ grouping-same (parentOf L ws₁) (parentOf L ws) (s .runs) (λ r h. parents-stand r))
+
+        others : (j : ℕ) → NoParent L (runsAfter s more) j → getD ws₂ j 0 ≡ getD ws₁ j 0
+        others j free = U .others j (rw last-start free)
+
+        wrote₂ : Wrote s ws k more ws₂
+        wrote₂ = record {
+          lined = λ ℓ h. others ℓ (λ r l e. omega (arith, below)) ∙ line-after ℓ h;
+          ran = λ r h.
+              ap₂ (λ (x : ℕ) (y : ℕ). record { start = x; end = y })
+              (others (startPlace L r) (λ i l e. omega arith))
+              (others (endPlace L r) (λ i l e. omega arith))
+              ∙ run-after r h;
+          stands = λ j A free. others j free ∙ stands j A;
+        }
+
+        pub block-words : FeedWords s ws k more ws₂
+        block-words = record {
+          long = U .long ∙ B .long;
+          others = wrote-others s ws k more below (λ r h. omega (arith, room s ws cells H k more (G .few) (G .whole) (S .memory) r h)) (room-lines s ws cells H k more (G .few) (G .whole) (S .memory)) ws₂ wrote₂;
+          parents = λ r h. U .parents r (rw last-start h);
+          grouped = λ r h. U .grouped r (rw last-start h) ∙ ap (λ (es : List Edge). rep es r) edges-are;
+          no-lines = λ z. U .no-lines z ∙ none-written z;
+        }
+
+        pub block-joins : s .joins + t ≡ joins (feedEdges s ws k more)
+        block-joins =
+            let before : joins (grouping (parentOf L ws₁) (lineStart ws₁ (s .fed))) ≡ s .joins = ap joins (ap (grouping (parentOf L ws₁)) fed-start ∙ grouping-same (parentOf L ws₁) (parentOf L ws) (s .runs) (λ r h. parents-stand r)) ∙ grouping-joins (parentOf L ws) (s .runs) (S .words .parents) ∙ sym (S .words .join-count) in
+            omega (arith, U .counted, before, ap joins edges-are)
+
+-- ---- the same, in the names of the record's geometry
+
+not-not : (b : Bool) → not (not b) ≡ b
+not-not true = refl
+not-not false = refl
+
+module _ (s : Session) (ws : List ℕ) (k : ℕ) (more : List Bool) (G : Accepted s ws k more) (g : Geo) (K : GeoOf (s .rank) (s .shape) (s .structure) g) where
+  left-is : not (not (g .left)) ≡ leftOn (shapeOf s) (structureOf s)
+  left-is = not-not (g .left) ∙ geo-left s ws g K
+
+  pub feed-room : BlockRoom (not (not (g .left))) (g .width) (g .lines) (s .fed) (s .runs) k more ws
+  feed-room = rw (left-is, geo-width s ws g K, geo-lines s ws g K) (block-room s ws k more G)
+
+  pub feed-extracted : (ws₁ : List ℕ) (n : ℕ) → Block (not (not (g .left))) (g .width) (g .lines) (s .fed) (s .runs) k more ws ws₁ n → FeedExtracted s ws k more ws₁ n
+  feed-extracted ws₁ n B = record { given = G; block = rw (← left-is, ← geo-width s ws g K, ← geo-lines s ws g K) B }
+
+module _ (s : Session) (ws : List ℕ) (k : ℕ) (more : List Bool) (ws₁ : List ℕ) (n : ℕ) (X : FeedExtracted s ws k more ws₁ n) (g : Geo) (K : GeoOf (s .rank) (s .shape) (s .structure) g) (long : 3 ^ s .rank ≤ length (s .structure)) where
+  pub feed-ready : BlockReady (g .n) (g .dims) (g .lines) (s .structure) ws₁ (s .fed) k
+  feed-ready = rw (geo-lines s ws g K) (block-ready s ws k more (X .given) ws₁ n (X .block) g K long)
+
+  module _ (ws₂ : List ℕ) (t : ℕ) (U : BlockUnited (g .n) (g .dims) (g .lines) (s .structure) ws₁ ws₂ (s .fed) k t) where
+    united : BlockUnited (g .n) (g .dims) (linesOf s) (s .structure) ws₁ ws₂ (s .fed) k t
+    united = rw (← geo-lines s ws g K) U
+
+    W : FeedWords s ws k more ws₂
+    W = block-words s ws k more (X .given) ws₁ n (X .block) g K long ws₂ t united
+
+    joins-are : s .joins + t ≡ joins (feedEdges s ws k more)
+    joins-are = block-joins s ws k more (X .given) ws₁ n (X .block) g K long ws₂ t united
+
+    -- the joins are a number of 64 bits, as the lines are
+    pub feed-joins-fit : s .joins + t < 4294967293
+    unfolding nonRoots
+    feed-joins-fit =
+        let G = X .given in
+        let S = G .is-sound in
+        let p = parentOf (linesOf s) ws₂ in
+        omega (arith, joins-are, joins-after s ws (cellsOf s ws) (sound-stores s ws S) k more (G .few) (G .whole) (S .memory) ws₂ W (S .words .parents), count-most (λ r. not (own p r)) (runsAfter s more), few s ws k more G)
+
+    pub feed-done : FeedDone s ws k more (withFigures s (s .fed + k) n (s .joins + t)) ws₂
+    unfolding feedRecord
+    feed-done = record {
+      session = ap₂ (λ (r : ℕ) (j : ℕ). withFigures s (s .fed + k) r j) (extracted-count s ws k more (X .given) ws₁ n (X .block)) joins-are;
+      words = W;
+    }

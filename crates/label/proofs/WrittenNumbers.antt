@@ -1,0 +1,147 @@
+-- A sound record is ready to have its runs named and its cells' numbers written; and they are what a reading promises.
+-- Assumes nothing.
+use mathlib.Core.Path.{_≡_, refl, sym, ap, _∙_}
+use mathlib.Core.Bool.{Bool, true, false, cond, true≢false}
+use mathlib.Core.List.{List}
+use Prim.Native.Nat.{ℕ, suc, _+_, _*_, _/_, _%_, _≤_, _<_}
+use native.Mathlib.Nat.{le-refl, mod-lt, mul-assoc, mul-le-mul-right, div-add-mod', div-lt-iff-lt-mul}
+use native.Mathlib.Omega.{arith}
+use lib.ListN.{length, getD}
+use lib.Seq.{ext-getD}
+use Rattle.frame.specs.Shape.{size, width}
+use Rattle.frame.specs.ChainRule.{nonzero}
+use Rattle.frame.specs.Kinds.{Number, largest}
+use Rattle.frame.specs.Memory.{stride, perLine, wordsNeeded}
+use Rattle.frame.specs.Words.{lineStart, parentOf}
+use Rattle.frame.proofs.ShapeLaws.{factor-pos, size-lines}
+use Rattle.frame.proofs.ChainRuleLaws.{any-at}
+use Rattle.frame.proofs.FrameRunLaws.{starts-few, line-below}
+use Rattle.frame.proofs.ListLaws.{listed-at, listed-length}
+use Rattle.forest.specs.Forest.{numberIn}
+use Rattle.geo.specs.declared.Geo.{Geo}
+use Rattle.geo.specs.Geometry.{GeoOf}
+use Rattle.write.specs.Writes.{NamesReady, named, LinesHeld, WriteReady, AtCell, LinesWritten}
+use Rattle.label.specs.declared.Session.{Session}
+use Rattle.label.specs.Record.{shapeOf, structureOf, linesOf}
+use Rattle.label.specs.Sound.{Sound}
+use Rattle.label.specs.Held.{holdsCell, cellsOf, holderOf, rootCount, numberAt, numbersHeld}
+use Rattle.label.specs.Reading.{withNames}
+use Rattle.label.specs.Steps.{ReadAccepted}
+use Rattle.label.proofs.SoundLaws.{starts-rise}
+use Rattle.label.proofs.RecordGeometry.{geo-lines, geo-width}
+use Rattle.label.proofs.HoldLaws.{holds-parts, parts-hold, nonzero-held}
+use Rattle.label.proofs.StoreLaws.{Stores, own-holds, stores-holder}
+use Rattle.label.proofs.SoundCells.{sound-stores}
+use Rattle.label.proofs.FitLaws.{runs-fit}
+
+module _ (s : Session) (ws : List ℕ) (S : Sound s ws) where
+  -- L, w, and the cells and parents held
+  abbrev L : ℕ
+  L = linesOf s
+
+  abbrev w : ℕ
+  w = width (shapeOf s)
+
+  abbrev cells : List Bool
+  cells = cellsOf s ws
+
+  abbrev parent : ℕ → ℕ
+  parent = parentOf (linesOf s) ws
+
+  H : Stores s ws (cellsOf s ws)
+  H = sound-stores s ws S
+
+  -- ---- ready
+
+  -- the memory has room for the runs, which are at most h in each line
+  pub names-ready : NamesReady (linesOf s) (s .runs) ws
+  unfolding wordsNeeded
+  names-ready = record {
+    room = omega (arith, S .memory, H .runs-are, starts-few (shapeOf s) (structureOf s) cells (s .fed), mul-le-mul-right h (S .within), mul-assoc stride L h);
+    parents = S .words .parents;
+    small = omega (arith, runs-fit s ws S);
+  }
+    where
+      h : ℕ
+      h = perLine (shapeOf s) (structureOf s)
+
+  -- a run of a fed line is one of the record's
+  line-run : (ℓ r : ℕ) → ℓ < s .fed → r < lineStart ws (suc ℓ) → r < s .runs
+  line-run ℓ r h l = omega (arith, starts-rise s ws S (suc ℓ) (s .fed) h (le-refl (s .fed)), S .words .last)
+
+  lines-held : LinesHeld L w (s .fed) ws
+  lines-held = record {
+    within = S .within;
+    first = S .words .first;
+    sorted = λ ℓ h. record {
+      upto = S .words .rising ℓ h;
+      nonempty = λ r low high. S .words .nonempty r (line-run ℓ r h high);
+      ordered = λ r low high. omega (arith, S .words .ordered ℓ h r (line-run ℓ r h (omega arith)) low high);
+    };
+    inside = λ r h. S .words .inside r (rw (S .words .last) at h);
+  }
+
+  pub write-ready : (largest out : ℕ) → rootCount s ws ≤ largest → out ≡ size (shapeOf s) → WriteReady (linesOf s) (width (shapeOf s)) (s .fed) ws largest out
+  unfolding rootCount
+  write-ready largest out fits e = record {
+    lines = lines-held;
+    runs = rw (S .words .last) names-ready;
+    fits = rw (S .words .last) fits;
+    places = e ∙ size-lines (shapeOf s);
+  }
+
+  -- ---- written
+
+  -- a cell, its line and its column
+  module _ (p : ℕ) (h : p < size (shapeOf s)) where
+    abbrev ℓ : ℕ
+    ℓ = p / width (shapeOf s)
+
+    abbrev x : ℕ
+    x = p % width (shapeOf s)
+
+    in-frame : p < L * w
+    in-frame = rw (← size-lines (shapeOf s)) h
+
+    width-pos : 0 < w
+    width-pos = factor-pos L w p in-frame
+
+    -- a nonzero cell is covered by the run that holds it
+    held-at : nonzero cells p ≡ true → AtCell L (s .fed) ws ℓ x (holderOf s ws p)
+    held-at a =
+        let k = holds-parts s ws p (holderOf s ws p) (rw (stores-holder s ws cells H p a) (own-holds s ws cells H p a)) in
+        record { is-fed = line-below (shapeOf s) (structureOf s) cells (s .fed) (H .fits) p a; low = k .low; high = k .high; covers = k .covers }
+
+    -- and a cell that a run covers is nonzero
+    at-held : (r : ℕ) → AtCell L (s .fed) ws ℓ x r → nonzero cells p ≡ true
+    at-held r c =
+        let held = parts-hold s ws p r (record { low = c .low; high = c .high; covers = c .covers }) in
+        nonzero-held s ws p (div-lt-iff-lt-mul width-pos .0 (c .is-fed)) ∙ any-at (holdsCell s ws p) (s .runs) r (line-run ℓ r (c .is-fed) (c .high)) held
+
+    number-written : (ws′ out out′ : List ℕ) → LinesWritten L w (s .fed) ws ws′ out out′ → getD out′ p 0 ≡ numberAt s ws p
+    unfolding numberAt
+    number-written ws′ out out′ W = ap (λ (q : ℕ). getD out′ q 0) (sym (div-add-mod' p w)) ∙ go (nonzero cells p) refl
+      where
+        go : (b : Bool) → nonzero cells p ≡ b → getD out′ (ℓ * w + x) 0 ≡ cond (nonzero cells p) (numberIn parent (holderOf s ws p)) 0
+        go true a = rw a (W .covered ℓ x (holderOf s ws p) (held-at a))
+        go false a = rw a (W .zeros ℓ x (div-lt-iff-lt-mul width-pos .1 in-frame) (mod-lt p width-pos) (λ r c. true≢false (sym (at-held r c) ∙ a)))
+
+  pub written-numbers : (kind : Number) → (ws′ out out′ : List ℕ) → length out ≡ size (shapeOf s) → LinesWritten (linesOf s) (width (shapeOf s)) (s .fed) ws ws′ out out′
+      → (ws′ ≡ withNames s ws) × (out′ ≡ numbersHeld s ws kind)
+  unfolding withNames
+  written-numbers kind ws′ out out′ e W = (
+    W .names ∙ ap (λ (n : ℕ). named L n ws) (S .words .last),
+    ext-getD 0 out′ (numbersHeld s ws kind) (long ∙ sym (listed-length (numberAt s ws) (size (shapeOf s))))
+        (λ p h. let l : p < size (shapeOf s) = rw long at h in number-written p l ws′ out out′ W ∙ sym (listed-at (numberAt s ws) (size (shapeOf s)) p 0 l)),
+  )
+    where
+      long : length out′ ≡ size (shapeOf s)
+      long = W .long ∙ e
+
+-- the same, in the names of the record's geometry
+module _ (kind : Number) (s : Session) (ws : List ℕ) (out : ℕ) (R : ReadAccepted kind s ws out) (g : Geo) (K : GeoOf (s .rank) (s .shape) (s .structure) g) where
+  pub read-ready : WriteReady (g .lines) (g .width) (s .fed) ws (largest kind) out
+  read-ready = rw (geo-lines s ws g K, geo-width s ws g K) (write-ready s ws (R .is-sound) (largest kind) out (R .fits) (R .places))
+
+  pub read-done : (ws′ : List ℕ) (to to′ : List ℕ) → length to ≡ out → LinesWritten (g .lines) (g .width) (s .fed) ws ws′ to to′ → (ws′ ≡ withNames s ws) × (to′ ≡ numbersHeld s ws kind)
+  read-done ws′ to to′ long W = written-numbers s ws (R .is-sound) kind ws′ to to′ (long ∙ R .places) (rw (← geo-lines s ws g K, ← geo-width s ws g K) W)

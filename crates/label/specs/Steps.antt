@@ -1,0 +1,49 @@
+-- What the work of a call asks, once its check has found no cause, and what it leaves.
+-- Assumes nothing.
+use mathlib.Core.Path.{_≡_}
+use mathlib.Core.Bool.{Bool}
+use mathlib.Core.List.{List}
+use Prim.Native.Nat.{ℕ, _-_, _*_, _≤_}
+use lib.ListN.{length}
+use Rattle.frame.specs.Shape.{size, width}
+use Rattle.frame.specs.Structure.{leftOn}
+use Rattle.frame.specs.Kinds.{Number, largest}
+use Rattle.block.specs.Blocks.{Block}
+use Rattle.label.specs.declared.Session.{Session}
+use Rattle.label.specs.Record.{shapeOf, structureOf, linesOf}
+use Rattle.label.specs.Sound.{Sound}
+use Rattle.label.specs.Held.{rootCount}
+use Rattle.label.specs.Feeding.{feedRecord, FeedWords}
+
+-- ---- feed
+
+module _ (s : Session) (ws : List ℕ) (k : ℕ) (cells : List Bool) where
+  -- a sound record, lines that the frame still has, and their cells
+  pub record Accepted : Type 0 where
+    pub is-sound : Sound s ws
+    pub few : k ≤ linesOf s - s .fed
+    pub whole : length cells ≡ k * width (shapeOf s)
+
+  -- the words once the new lines' runs are extracted, and how many runs there are then
+  pub record FeedExtracted (ws′ : List ℕ) (n : ℕ) : Type 0 where
+    pub given : Accepted
+    pub block : Block (leftOn (shapeOf s) (structureOf s)) (width (shapeOf s)) (linesOf s) (s .fed) (s .runs) k cells ws ws′ n
+
+  -- the record and the words after the feed
+  pub record FeedDone (s′ : Session) (ws′ : List ℕ) : Type 0 where
+    pub session : s′ ≡ feedRecord s ws k cells
+    pub words : FeedWords s ws k cells ws′
+
+-- the words are those of some feed whose lines are extracted
+pub record SomeExtracted (s : Session) (k : ℕ) (ws′ : List ℕ) (n : ℕ) : Type 0 where
+  pub words : List ℕ
+  pub cells : List Bool
+  pub extracted : FeedExtracted s words k cells ws′ n
+
+-- ---- reading
+
+-- a sound record, an output of exact length, which is `out`, and a kind that holds n
+pub record ReadAccepted (kind : Number) (s : Session) (ws : List ℕ) (out : ℕ) : Type 0 where
+  pub is-sound : Sound s ws
+  pub places : out ≡ size (shapeOf s)
+  pub fits : rootCount s ws ≤ largest kind

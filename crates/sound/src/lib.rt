@@ -1,0 +1,86 @@
+// Whether words are sound, whatever they hold. One pass over the stored runs: it ends at the first clause that fails.
+//
+// Promised (specs/Stored.antt): the answer is the test of all the clauses about words.
+ghost use mathlib.Core.Path.{_≡_};
+ghost use Rattle.sound.specs.Stored.{wordsSound, PassReady};
+ghost use Rattle.sound.specs.Lines.{LineInPass, LineFound};
+
+// Whether the words are sound, for `lines` lines of `width` cells, `fed` of them fed, with those counts of runs and joins. `left` says
+// that the left byte is nonzero.
+pub fn words_sound(
+    words: &[u32],
+    lines: usize,
+    width: usize,
+    left: bool,
+    fed: usize,
+    runs: usize,
+    joins: usize,
+) -> bool
+    requires { ⌜ PassReady lines width left fed (now words) ⌝ }
+    ensures { λ r. ⌜ r ≡ wordsSound lines width left fed runs joins (now (words .entry)) ⌝ }
+{
+    if words[0] != 0 {
+        return false;
+    }
+    let most = if left { (width + 1) / 2 } else { width };
+    let mut a: usize = 0;
+    let mut nonroots: usize = 0;
+    let mut i: usize = 0;
+    while i < fed {
+        let b = words[i + 1] as usize;
+        if (b < a) | (b > a + most) {
+            return false;
+        }
+        match line_sound(words, lines, width, left, a, b) {
+            LineSound::Sound(k) => {
+                nonroots += k;
+                a = b;
+                i += 1;
+            }
+            LineSound::Unsound => return false,
+        }
+    }
+    (a == runs) & (nonroots == joins)
+}
+
+// What the pass finds of a line: sound, with so many runs that are not their own parents; or not.
+enum LineSound {
+    Sound(usize),
+    Unsound,
+}
+
+// Whether the runs `a` to before `b`, those of a line, are sound. Ends rise along a line, so that only the last is held to the width.
+fn line_sound(
+    words: &[u32],
+    lines: usize,
+    width: usize,
+    left: bool,
+    a: usize,
+    b: usize,
+) -> LineSound
+    requires { ⌜ LineInPass lines width a b (now words) ⌝ }
+    ensures { λ r. ⌜ LineFound lines width left a b (now (words .entry)) r ⌝ }
+{
+    let gap = left as usize;
+    let longest = if left { width } else { 1 };
+    let base = lines + 1;
+    let mut least: usize = 0;
+    let mut nonroots: usize = 0;
+    let mut r = a;
+    while r < b {
+        let at = frame::STRIDE * r;
+        let s = words[base + at] as usize;
+        let e = words[base + (at + frame::END)] as usize;
+        let p = words[base + (at + frame::PARENT)] as usize;
+        if (s < least) | (e <= s) | (e > s + longest) | (p > r) {
+            return LineSound::Unsound;
+        }
+        least = e + gap;
+        nonroots += (p < r) as usize;
+        r += 1;
+    }
+    if least > width + gap {
+        return LineSound::Unsound;
+    }
+    LineSound::Sound(nonroots)
+}

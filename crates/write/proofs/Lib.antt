@@ -1,0 +1,5 @@
+pub mod NameLaws
+pub mod PaintLaws
+pub mod LineLaws
+pub mod BlockLaws
+pub mod SizeLaws

@@ -1,0 +1,121 @@
+-- The cells of each number, run by run.
+-- Assumes nothing.
+use mathlib.Core.Path.{_≡_, refl, sym, ap, _∙_, subst}
+use mathlib.Core.Bool.{Bool, true, false}
+use mathlib.Core.List.{List}
+use Prim.Native.Nat.{ℕ, suc, _+_, _*_, _-_, _≤_, _<_}
+use native.Mathlib.Decide.{le-ind}
+use native.Mathlib.Nat.{le-refl}
+use native.Mathlib.Numerals.{add-one}
+use native.Mathlib.Omega.{arith}
+use borrow.Author.Tests.{eqb-true, eqb-false, eq-eqb, ne-eqb}
+use lib.Dec.{eqb}
+use lib.ListN.{length, getD, set, length-set}
+use lib.Seq.{getD-set-same, getD-set-other}
+use Rattle.frame.specs.Memory.{stride}
+use Rattle.frame.specs.Words.{runStart, runEnd, parentOf, nameOf}
+use Rattle.forest.specs.Forest.{numberIn}
+use Rattle.write.specs.Writes.{runCells, SizesReady, SizesWritten}
+use Rattle.write.specs.Steps.{Named, NameReady, Filled}
+use Rattle.write.proofs.NameLaws.{number-pos, number-le, named-none, next-asked, next-named, next-room, next-start, next-end, next-name}
+
+-- ---- how many cells the first runs with a number have
+
+module _ (L : ℕ) (ws : List ℕ) where
+  cells-none : (g : ℕ) → runCells L ws g 0 ≡ 0
+  unfolding runCells
+  cells-none g = refl
+
+  cells-on : (g r : ℕ) → numberIn (parentOf L ws) r ≡ g → runCells L ws g (suc r) ≡ runEnd L ws r - runStart L ws r + runCells L ws g r
+  unfolding runCells
+  cells-on g r e = rw (eq-eqb (numberIn (parentOf L ws) r) g e)
+
+  cells-off : (g r : ℕ) → (numberIn (parentOf L ws) r ≡ g → ⊥) → runCells L ws g (suc r) ≡ runCells L ws g r
+  unfolding runCells
+  cells-off g r ne = rw (ne-eqb (numberIn (parentOf L ws) r) g ne) (omega arith)
+
+  cells-rise : (g m n : ℕ) → m ≤ n → runCells L ws g m ≤ runCells L ws g n
+  cells-rise g m n h = le-ind (λ k. runCells L ws g m ≤ runCells L ws g k) (le-refl _) (λ k l below. step k below) n h
+    where
+      step : (k : ℕ) → runCells L ws g m ≤ runCells L ws g k → runCells L ws g m ≤ runCells L ws g (suc k)
+      step k below = unfold runCells in omega (arith, below)
+
+-- ---- the sizes up to before run r, where `count` is how many numbers there are
+
+pub record SizesTo (L n : ℕ) (ws : List ℕ) (count : ℕ) (now : List ℕ) (c : ℕ) (sizes : List ℕ) (r : ℕ) : Type 0 where
+  pub upto : r ≤ n
+  pub names : Named L r ws now c
+  pub long : length sizes ≡ count
+  pub counts : (g : ℕ) → g < count → getD sizes g 0 ≡ runCells L ws (suc g) r
+
+module _ {L n : ℕ} {ws : List ℕ} {count : ℕ} (A : SizesReady L n ws count) where
+  pub sizes-begin : {out zeros : List ℕ} → length out ≡ count → Filled 0 count 0 out zeros → SizesTo L n ws count ws 0 zeros 0
+  sizes-begin e F = record {
+    upto = omega arith;
+    names = named-none L ws;
+    long = F .long ∙ e;
+    counts = λ g h. F .inside g (omega arith) h ∙ sym (cells-none L ws (suc g));
+  }
+
+  module _ {now : List ℕ} {c : ℕ} {sizes : List ℕ} {r : ℕ} (T : SizesTo L n ws count now c sizes r) where
+    module _ (h : r < n) where
+      pub size-asked : NameReady L r now c
+      size-asked = next-asked (A .runs) (T .names) h
+
+      module _ {later : List ℕ} {d : ℕ} (N : Named L (suc r) now later d) where
+        pub size-room : L + 1 + stride * suc r ≤ length later
+        size-room = next-room (A .runs) (T .names) h N
+
+        module _ {v : ℕ} (is-v : v ≡ nameOf L later r) where
+          number-is : v ≡ numberIn (parentOf L ws) r
+          number-is = is-v ∙ next-name (A .runs) (T .names) h N
+
+          -- the number is one of those that have a place
+          pub size-place : (1 ≤ v) × (v - 1 < length sizes)
+          size-place =
+              let lo = number-pos (parentOf L ws) n (A .runs .parents) r h in
+              let hi = number-le (parentOf L ws) n (A .runs .parents) r h in
+              (omega (arith, number-is), omega (arith, number-is, A .groups, T .long))
+
+          module _ {s e : ℕ} (is-s : s ≡ getD later (L + 1 + (stride * r + 0)) 0) (is-e : e ≡ runEnd L later r) where
+            start-is : s ≡ runStart L ws r
+            start-is = is-s ∙ next-start (A .runs) (T .names) h N
+
+            end-is : e ≡ runEnd L ws r
+            end-is = is-e ∙ next-end (A .runs) (T .names) h N
+
+            pub size-upward : s ≤ e
+            size-upward = rw (start-is, end-is) (A .upward r h)
+
+            -- its size with this run's cells
+            added : getD sizes (v - 1) 0 + (e - s) ≡ runCells L ws (suc (v - 1)) (suc r)
+            added = rw (T .counts (v - 1) (omega (arith, size-place, T .long)), start-is, end-is) (omega (arith, cells-on L ws (suc (v - 1)) r (omega (arith, number-is, size-place))))
+
+            pub size-fits : getD sizes (v - 1) 0 + (e - s) < 4294967296
+            size-fits = omega (arith, added, cells-rise L ws (suc (v - 1)) (suc r) n h, A .small (suc (v - 1)))
+
+            pub size-turn : SizesTo L n ws count later d (set sizes (v - 1) (getD sizes (v - 1) 0 + (e - s))) (r + 1)
+            size-turn = subst (λ (k : ℕ). SizesTo L n ws count later d (set sizes (v - 1) (getD sizes (v - 1) 0 + (e - s))) k) (sym (add-one r)) (record {
+              upto = h;
+              names = next-named (A .runs) (T .names) h N;
+              long = length-set sizes (v - 1) _ ∙ T .long;
+              counts = λ g l. go g l (eqb g (v - 1)) refl;
+            })
+              where
+                go : (g : ℕ) → g < count → (t : Bool) → eqb g (v - 1) ≡ t → getD (set sizes (v - 1) (getD sizes (v - 1) 0 + (e - s))) g 0 ≡ runCells L ws (suc g) (suc r)
+                go g l true t =
+                    let q = eqb-true g (v - 1) t in
+                    ap (λ (k : ℕ). getD (set sizes (v - 1) (getD sizes (v - 1) 0 + (e - s))) k 0) q
+                    ∙ getD-set-same sizes (v - 1) _ 0 (size-place .1) ∙ added ∙ ap (λ (k : ℕ). runCells L ws (suc k) (suc r)) (sym q)
+                go g l false t =
+                    let ne = eqb-false g (v - 1) t in
+                    getD-set-other sizes (v - 1) g _ 0 ne ∙ T .counts g l ∙ sym (cells-off L ws (suc g) r (λ q. ne (omega (arith, q, number-is))))
+
+    pub sizes-done : {out : List ℕ} → length out ≡ count → n ≤ r → SizesWritten L n ws now out sizes
+    sizes-done {out} e left =
+        let all : r ≡ n = omega (arith, T .upto) in
+        record {
+          names = subst (λ (k : ℕ). Named L k ws now c) all (T .names) .names;
+          long = T .long ∙ sym e;
+          counts = λ g h. T .counts g (omega (arith, e)) ∙ ap (runCells L ws (suc g)) all;
+        }

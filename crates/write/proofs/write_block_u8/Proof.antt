@@ -1,0 +1,79 @@
+-- `write_block_u8` meets its contract. The loop's invariant: the lines before this one are written.
+-- Assumes nothing.
+use Prim.Native.Nat.{_-_}
+use mathlib.Core.Path.{_∙_}
+use native.Mathlib.Omega.{arith}
+use borrow.Author.Needs.{needs}
+use Rattle.write.proofs.NameLaws.{now-long}
+use Rattle.write.proofs.BlockLaws.{LinesTo, lines-begin, fed-room, lent-room, line-asked, lines-turn, lines-done}
+use Rattle.write.proofs.write_block_u8.Statement.{statement}
+use Rattle.write.proofs.write_block_u8.Tie as tie
+
+abbrev Inv-loop : tie.InvT-loop
+Inv-loop words₀ lines width fed out₀ named₀ line₀ words out named line = LinesTo lines width fed words₀ out₀ words named out line
+
+abbrev μ-loop : tie.MeasureT-loop
+μ-loop words₀ lines width fed out₀ named₀ line₀ words out named line = fed - line
+
+loop-holds : tie.Need-loop-holds Inv-loop μ-loop
+loop-holds c = lines-begin (c .before .before .pre)
+
+mul-at : tie.Need-mul-at Inv-loop μ-loop
+mul-at c = record { fits = omega (arith, lent-room (c .before .before .before .before .pre) (c .before .loop .inv) (c .loop-test .taken)) }
+
+sub-write-line-u8 : tie.Need-sub-write-line-u8 Inv-loop μ-loop
+sub-write-line-u8 c = omega (arith, lent-room (c .before .before .before .before .before .pre) (c .before .before .loop .inv) (c .before .loop-test .taken))
+
+part-write-line-u8-start : tie.Need-part-write-line-u8-start Inv-loop μ-loop
+part-write-line-u8-start c = omega (arith, lent-room (c .before .before .before .before .before .pre) (c .before .before .loop .inv) (c .before .loop-test .taken))
+
+part-write-line-u8-end : tie.Need-part-write-line-u8-end Inv-loop μ-loop
+part-write-line-u8-end c = search needs
+
+write-line-u8-requires : tie.Need-write-line-u8-requires Inv-loop μ-loop
+write-line-u8-requires c κs = line-asked (c .before .before .before .before .before .before .pre) (c .before .before .before .loop .inv) (c .before .before .loop-test .taken)
+
+add-line : tie.Need-add-line Inv-loop μ-loop
+add-line c = search needs
+
+loop-less : tie.Need-loop-less Inv-loop μ-loop
+loop-less c = search needs
+
+loop-again : tie.Need-loop-again Inv-loop μ-loop
+loop-again c = lines-turn (c .before .before .before .before .before .before .before .before .before .before .before .pre) (c .before .before .before .before .before .before .before .before .loop .inv) (c .before .before .before .before .before .before .before .loop-test .taken) (c .before .before .before .before .write-line-u8 .ensures)
+
+mul-fill-u8 : tie.Need-mul-fill-u8 Inv-loop μ-loop
+mul-fill-u8 c = record { fits = omega (arith, fed-room (c .before .before .before .before .before .pre) (c .before .before .loop .inv)) }
+
+fill-u8-requires : tie.Need-fill-u8-requires Inv-loop μ-loop
+fill-u8-requires c κs = search needs
+
+same-length : tie.Need-same-length Inv-loop μ-loop
+same-length c = now-long (c .before .before .before .before .before .loop .inv .names)
+
+same-length-2 : tie.Need-same-length-2 Inv-loop μ-loop
+same-length-2 c = c .before .before .fill-u8 .ensures .long ∙ c .before .before .before .before .before .loop .inv .long
+
+returns : tie.Need-returns Inv-loop μ-loop
+returns c = lines-done (c .before .before .before .before .before .before .before .before .pre) (c .before .before .before .before .before .loop .inv) (c .before .before .before .before .loop-test .left) (c .before .before .fill-u8 .ensures)
+
+pub write-block-u8-spec : {M : Type 1} → statement M
+write-block-u8-spec =
+    tie.close
+    (tie.spec
+    Inv-loop
+    μ-loop
+    loop-holds
+    mul-at
+    sub-write-line-u8
+    part-write-line-u8-start
+    part-write-line-u8-end
+    write-line-u8-requires
+    add-line
+    loop-less
+    loop-again
+    mul-fill-u8
+    fill-u8-requires
+    same-length
+    same-length-2
+    returns)

@@ -1,0 +1,75 @@
+-- What naming the runs, writing the numbers of cells and counting the cells of each group ask, and what they do.
+-- Assumes nothing.
+use mathlib.Core.Path.{_≡_}
+use mathlib.Core.Bool.{cond}
+use mathlib.Core.List.{List}
+use Prim.Native.Nat.{ℕ, zero, suc, _+_, _-_, _*_, _≤_, _<_}
+use lib.Dec.{eqb}
+use lib.ListN.{length, getD}
+use Rattle.frame.specs.Lists.{setAll}
+use Rattle.frame.specs.Runs.{Covers}
+use Rattle.frame.specs.Memory.{stride}
+use Rattle.frame.specs.Words.{lineStart, runStart, runEnd, parentOf, storedRun, namePlace}
+use Rattle.forest.specs.Forest.{roots, numberIn}
+use Rattle.link.specs.Sweeps.{InOrder}
+
+-- ---- names
+
+-- the first n runs' words are there, no parent is above its run, and words hold their numbers
+pub record NamesReady (L n : ℕ) (ws : List ℕ) : Type 0 where
+  pub room : L + 1 + stride * n ≤ length ws
+  pub parents : (r : ℕ) → r < n → parentOf L ws r ≤ r
+  pub small : n < 4294967295
+
+-- each of the first n runs has its number as its name, and every other word stands
+abbrev pub named : ℕ → ℕ → List ℕ → List ℕ
+named L n ws = setAll (namePlace L) (numberIn (parentOf L ws)) n ws
+
+-- ---- the numbers of cells
+
+-- L lines of w cells, the first `fed` of which are fed: each line's runs are in order and within the width
+pub record LinesHeld (L w fed : ℕ) (ws : List ℕ) : Type 0 where
+  pub within : fed ≤ L
+  pub first : lineStart ws 0 ≡ 0
+  pub sorted : (m : ℕ) → m < fed → InOrder (storedRun L ws) (lineStart ws m) (lineStart ws (suc m))
+  pub inside : (r : ℕ) → r < lineStart ws fed → runEnd L ws r ≤ w
+
+-- what writing them asks, where `largest` is the kind's largest number, and out is the count of places
+pub record WriteReady (L w fed : ℕ) (ws : List ℕ) (largest out : ℕ) : Type 0 where
+  pub lines : LinesHeld L w fed ws
+  pub runs : NamesReady L (lineStart ws fed) ws
+  pub fits : roots (parentOf L ws) (lineStart ws fed) ≤ largest
+  pub places : out ≡ L * w
+
+-- run r is one of line ℓ, which is fed, and covers column x
+pub record AtCell (L fed : ℕ) (ws : List ℕ) (ℓ x r : ℕ) : Type 0 where
+  pub is-fed : ℓ < fed
+  pub low : lineStart ws ℓ ≤ r
+  pub high : r < lineStart ws (suc ℓ)
+  pub covers : Covers (storedRun L ws r) x
+
+-- what it does: the runs are named, each cell that a run covers has that run's number, and every other cell 0
+pub record LinesWritten (L w fed : ℕ) (ws ws′ out out′ : List ℕ) : Type 0 where
+  pub names : ws′ ≡ named L (lineStart ws fed) ws
+  pub long : length out′ ≡ length out
+  pub covered : (ℓ x r : ℕ) → AtCell L fed ws ℓ x r → getD out′ (ℓ * w + x) 0 ≡ numberIn (parentOf L ws) r
+  pub zeros : (ℓ x : ℕ) → ℓ < L → x < w → ((r : ℕ) → AtCell L fed ws ℓ x r → ⊥) → getD out′ (ℓ * w + x) 0 ≡ 0
+
+-- ---- the cells of each group
+
+-- how many cells the first n runs with number g have
+unfoldable pub runCells : ℕ → List ℕ → ℕ → ℕ → ℕ
+runCells L ws g zero = 0
+runCells L ws g (suc n) = cond (eqb (numberIn (parentOf L ws) n) g) (runEnd L ws n - runStart L ws n) 0 + runCells L ws g n
+
+-- what counting them asks, where `count` is the length of the slice: a word holds each count
+pub record SizesReady (L n : ℕ) (ws : List ℕ) (count : ℕ) : Type 0 where
+  pub runs : NamesReady L n ws
+  pub upward : (r : ℕ) → r < n → runStart L ws r ≤ runEnd L ws r
+  pub groups : count ≡ roots (parentOf L ws) n
+  pub small : (g : ℕ) → runCells L ws g n < 4294967296
+
+pub record SizesWritten (L n : ℕ) (ws ws′ out out′ : List ℕ) : Type 0 where
+  pub names : ws′ ≡ named L n ws
+  pub long : length out′ ≡ length out
+  pub counts : (g : ℕ) → g < length out → getD out′ g 0 ≡ runCells L ws (suc g) n
