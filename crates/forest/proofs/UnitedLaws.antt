@@ -98,7 +98,3 @@ module _ (p : List ℕ) (n : ℕ) (P : Parents p n) where
 
         over : (xs ys : List Edge) → Within xs ys → Within (visit xs old) (visit ys old)
         over xs ys k a b h = joined-visit ys old a b (part xs ys k a b (visit-joined xs old a b h))
-
-  -- a union that joins leaves one root fewer
-  pub joined-roots : (q : List ℕ) (a b : ℕ) (t : Bool) → a < n → b < n → Union p q n a b t → roots (parentIn q) n + cond t 1 0 ≡ roots (parentIn p) n
-  joined-roots q a b t ha hb J = united-groups q (record { from = a; to = b } ∷ []) (cond t 1 0) (ha, hb, tt) (joined-united q a b t ha hb J)

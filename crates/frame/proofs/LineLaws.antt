@@ -7,6 +7,7 @@ use Prim.Native.Nat.{ℕ, zero, suc, _+_, _*_, _/_, _≤_, _<_}
 use native.Mathlib.Nat.{le-refl, not-suc-le-zero, zero-add}
 use native.Mathlib.Omega.{arith}
 use lib.ListN.{length, getD}
+use Rattle.frame.specs.Memory.{mostRuns}
 use Rattle.frame.specs.Runs.{Run, none, Covers, stretches, singles, lineRuns, gapOf}
 
 -- run i of the list holds column x
@@ -218,11 +219,15 @@ unfolding lineRuns gapOf
 line-apart true l w h = apart-off l 0 0 w (omega arith)
 line-apart false l w h = apart-singles l 0 w (omega arith)
 
--- at most h of them
-pub line-few : (left : Bool) (l : List Bool) (w : ℕ) → length l ≤ w → length (lineRuns left l) ≤ cond left ((w + 1) / 2) w
+-- at most h of them, which is at most the width
+pub line-few : (left : Bool) (l : List Bool) (w : ℕ) → length l ≤ w → length (lineRuns left l) ≤ mostRuns left w
 unfolding lineRuns
 line-few true l w h = let k = few-off l 0 0 in omega arith
 line-few false l w h = let k = few-singles l 0 in omega arith
+
+pub most-runs-le : (left : Bool) (w : ℕ) → mostRuns left w ≤ w
+most-runs-le true w = omega arith
+most-runs-le false w = omega arith
 
 -- ---- what order says of each run
 

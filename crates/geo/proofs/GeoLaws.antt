@@ -17,6 +17,7 @@ use Rattle.frame.specs.Structure.{on, leftCode}
 use Rattle.frame.specs.Memory.{stride, mostRuns, perLine, wordsNeeded}
 use Rattle.frame.specs.Causes.{tooLarge}
 use Rattle.frame.proofs.ShapeLaws.{size-lines}
+use Rattle.frame.proofs.LineLaws.{most-runs-le}
 use Rattle.link.specs.Lines.{ThreeDims}
 use Rattle.geo.specs.declared.Geo.{Geo}
 use Rattle.geo.specs.Geometry.{GeoReady, GeoOf}
@@ -51,10 +52,6 @@ too-large-is shape w l c is-w is-l is-c =
         ∙ ap (λ (k : ℕ). min k 4294967293) (sym (size-lines shape))
 
 -- ---- geometry, and the words needed
-
-most-le : (left : Bool) (w : ℕ) → mostRuns left w ≤ w
-most-le true w = omega arith
-most-le false w = omega arith
 
 module _ (rank : ℕ) (shape structure : List ℕ) (A : GeoReady rank shape structure) where
   abbrev ranks : (1 ≤ rank) × (rank ≤ 4)
@@ -104,6 +101,6 @@ module _ (rank : ℕ) (shape structure : List ℕ) (A : GeoReady rank shape stru
       -- no more than four words for each cell
       pub geo-words-fit : stride * g .lines * h < 17179869172
       geo-words-fit =
-          let few = mul-le-mul-left (g .lines) (most-le (g .left) (g .width)) in
+          let few = mul-le-mul-left (g .lines) (most-runs-le (g .left) (g .width)) in
           let cells : g .lines * g .width ≡ size (entries rank shape) = ap₂ _*_ (G .lines-is) (G .width-is) ∙ sym (size-lines (entries rank shape)) in
           rw (is-h, mul-assoc stride (g .lines) (mostRuns (g .left) (g .width))) (omega (arith, few, within-limits (entries rank shape) (A .limits) .2))

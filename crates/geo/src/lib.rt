@@ -61,7 +61,7 @@ pub fn words_needed(rank: usize, shape: [usize; 4], structure: &[u8]) -> usize
 }
 
 // h, the most runs that a line of `w` cells can have: where the left byte is nonzero, adjacent cells are of one run.
-fn most_runs(left: bool, w: usize) -> usize
+pub fn most_runs(left: bool, w: usize) -> usize
     requires { ⌜ w < 2147483647 ⌝ }
     ensures { λ r. ⌜ r ≡ mostRuns left w ⌝ }
 {

@@ -22,7 +22,7 @@ use Rattle.label.specs.Held.{figuresOf, rootCount, numbersHeld, sizesHel
 use Rattle.label.specs.Opening.{openRecord, openWords, blank, OpenPromise}
 use Rattle.label.specs.Feeding.{feedRecord, feedCauseOf, FeedWords, FeedPromise}
 use Rattle.label.specs.Reading.{withNames, countedOf, readCauseOf, ReadPromise, sizesCauseOf, SizesPromise}
-use Rattle.label.specs.Steps.{Accepted, FeedDone, ReadAccepted}
+use Rattle.label.specs.Steps.{FeedAccepted, FeedDone, ReadAccepted}
 use Rattle.label.proofs.SoundLaws.{sound-right, right-sound, n-roots}
 
 -- ---- opening
@@ -59,24 +59,24 @@ module _ (shape structure ws : List ℕ) (none : 0 ≡ openCause shape structure
 
 module _ (s : Session) (ws : List ℕ) (k : ℕ) (cells : List Bool) where
   -- a feed has no cause exactly then
-  pub cause-accepted : feedCauseOf s ws k cells ≡ 0 → Accepted s ws k cells
+  pub cause-accepted : feedCauseOf s ws k cells ≡ 0 → FeedAccepted s ws k cells
   cause-accepted e =
       let h = feed-accepted (sound s ws) (linesOf s - s .fed) k (width (shapeOf s)) (length cells) (unfold feedCauseOf in e) in
       record { is-sound = sound-right s ws (h .0); few = h .1; whole = h .2 }
 
-  pub accepted-cause : Accepted s ws k cells → feedCauseOf s ws k cells ≡ 0
+  pub accepted-cause : FeedAccepted s ws k cells → feedCauseOf s ws k cells ≡ 0
   unfolding feedCauseOf
   accepted-cause G = rw (right-sound s ws (G .is-sound)) (accepted-feed (linesOf s - s .fed) k (width (shapeOf s)) (length cells) (G .few) (G .whole))
 
   -- the new cells are those of k lines
-  pub accepted-fits : Accepted s ws k cells → Fits (shapeOf s) k cells
+  pub accepted-fits : FeedAccepted s ws k cells → Fits (shapeOf s) k cells
   accepted-fits G = record { ranked = rank-right (shapeOf s) (G .is-sound .ranked) .0; below = omega (arith, G .few); whole = G .whole }
 
   -- its record is known, and the words are what is left to promise
-  pub accepted-session : Accepted s ws k cells → (a : Answer) (s′ : Session) (ws′ : List ℕ) → FeedPromise s ws k cells a s′ ws′ → s′ ≡ feedRecord s ws k cells
+  pub accepted-session : FeedAccepted s ws k cells → (a : Answer) (s′ : Session) (ws′ : List ℕ) → FeedPromise s ws k cells a s′ ws′ → s′ ≡ feedRecord s ws k cells
   accepted-session G a s′ ws′ P = P .session ∙ kept-new s (feedRecord s ws k cells) (feedCauseOf s ws k cells) (accepted-cause G)
 
-  pub accepted-promise : Accepted s ws k cells → (ws′ : List ℕ) → FeedWords s ws k cells ws′
+  pub accepted-promise : FeedAccepted s ws k cells → (ws′ : List ℕ) → FeedWords s ws k cells ws′
       → FeedPromise s ws k cells (fed (s .fed + k) (figuresOf (feedRecord s ws k cells))) (feedRecord s ws k cells) ws′
   accepted-promise G ws′ W = record {
     said = sym (unless-none (feedCauseOf s ws k cells) (fed (s .fed + k) (figuresOf (feedRecord s ws k cells))) (accepted-cause G));
@@ -86,7 +86,7 @@ module _ (s : Session) (ws : List ℕ) (k : ℕ) (cells : List Bool) where
   }
 
   -- it answers the figures of the record that it hands back
-  pub done-promise : Accepted s ws k cells → (s′ : Session) (ws′ : List ℕ) → FeedDone s ws k cells s′ ws′ → (a : Answer) → a ≡ fed (s′ .fed) (figuresOf s′) → (s″ : Session) → s″ ≡ s′
+  pub done-promise : FeedAccepted s ws k cells → (s′ : Session) (ws′ : List ℕ) → FeedDone s ws k cells s′ ws′ → (a : Answer) → a ≡ fed (s′ .fed) (figuresOf s′) → (s″ : Session) → s″ ≡ s′
       → FeedPromise s ws k cells a s″ ws′
   unfolding feedRecord
   done-promise G s′ ws′ D a said s″ same =

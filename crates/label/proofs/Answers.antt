@@ -15,7 +15,7 @@ use Rattle.label.specs.declared.Session.{Session}
 use Rattle.label.specs.Sound.{sound}
 use Rattle.label.specs.Cases.{causeNumber, openNumber, feedAnswer, readAnswer}
 use Rattle.label.specs.Opening.{openRecord, blank}
-use Rattle.label.specs.WholeFrame.{chop, blocks}
+use Rattle.label.specs.WholeFrame.{chop, blockLines, blocks}
 use Rattle.label.proofs.CallFunctions.{FeedResult, ReadResult, doOpen, doFeed, doRead, doSizes, doFrame}
 use Rattle.label.proofs.Worked.{computed, frame, cross, memory, line, whole, f, begun, one, two, three, junk, wide, wideWords, put, held}
 
@@ -226,5 +226,5 @@ blocks-right = refl
 
 -- seven lines in three blocks and in four; 0 counts as 1, above L as L; ⌈9/6⌉ is 2, so five blocks are enough
 blocks-are : blocks 7 3 ∷ blocks 7 4 ∷ blocks 5 0 ∷ blocks 3 9 ∷ blocks 9 6 ∷ [] ≡ (3 ∷ 3 ∷ 1 ∷ []) ∷ (2 ∷ 2 ∷ 2 ∷ 1 ∷ []) ∷ (5 ∷ []) ∷ (1 ∷ 1 ∷ 1 ∷ []) ∷ (2 ∷ 2 ∷ 2 ∷ 2 ∷ 1 ∷ []) ∷ []
-unfolding blocks chop
+unfolding blocks blockLines chop
 blocks-are = refl

@@ -27,8 +27,8 @@ use Rattle.label.specs.Record.{shapeOf, structureOf, linesOf, withFigure
 use Rattle.label.specs.Sound.{Sound}
 use Rattle.label.specs.Held.{cellsOf, groupingOf}
 use Rattle.label.specs.Feeding.{runsAfter, feedTouches, feedEdges, feedRecord, FeedWords, FeedPromise}
-use Rattle.label.specs.WholeFrame.{chop, blocks, Fills, no-more, block}
-use Rattle.label.specs.Steps.{Accepted}
+use Rattle.label.specs.WholeFrame.{chop, blockLines, blocks, Fills, no-more, block}
+use Rattle.label.specs.Steps.{FeedAccepted}
 use Rattle.label.proofs.AcceptedLaws.{accepted-cause, accepted-session}
 use Rattle.label.proofs.StoreLaws.{Stores}
 use Rattle.label.proofs.SoundCells.{sound-stores}
@@ -222,22 +222,22 @@ pub record OneFeed (s : Session) (ws : List ℕ) (k : ℕ) (cells : List Bool) (
   pub session : s′ ≡ feedRecord s ws k cells
   pub words : FeedWords s ws k cells ws′
 
-one-feed : (s : Session) (ws : List ℕ) (k : ℕ) (cells : List Bool) (a : Answer) (s′ : Session) (ws′ : List ℕ) → Accepted s ws k cells
+pub one-feed : (s : Session) (ws : List ℕ) (k : ℕ) (cells : List Bool) (a : Answer) (s′ : Session) (ws′ : List ℕ) → FeedAccepted s ws k cells
     → FeedPromise s ws k cells a s′ ws′ → OneFeed s ws k cells s′ ws′
 one-feed s ws k cells a s′ ws′ G P = record { whole = G .whole; session = accepted-session s ws k cells G a s′ ws′ P; words = P .accepted (accepted-cause s ws k cells G) }
 
 -- a block, and those after it
 module _ (s : Session) (ws : List ℕ) (S : Sound s ws) (k : ℕ) (more : List Bool) (s₁ : Session) (ws₁ : List ℕ) (few : k ≤ linesOf s - s .fed) (O : OneFeed s ws k more s₁ ws₁) where
-  between-sound : Sound s₁ ws₁
+  pub between-sound : Sound s₁ ws₁
   between-sound = subst (λ (x : Session). Sound x ws₁) (sym (O .session)) (sound-after s ws (cellsOf s ws) (sound-stores s ws S) k more few (O .whole) (S .memory) ws₁ (O .words) (S .words .parents) S)
 
-  between-shape : shapeOf s₁ ≡ shapeOf s
+  pub between-shape : shapeOf s₁ ≡ shapeOf s
   between-shape = ap shapeOf (O .session) ∙ feed-shape s ws k more
 
-  between-fed : s₁ .fed ≡ s .fed + k
+  pub between-fed : s₁ .fed ≡ s .fed + k
   between-fed = ap (λ (x : Session). x .fed) (O .session) ∙ (unfold feedRecord in refl)
 
-  one-more : (j : ℕ) (rest : List Bool) (s₂ : Session) (ws₂ : List ℕ) → s .fed + k + j ≤ linesOf s → OneFeed s₁ ws₁ j rest s₂ ws₂
+  pub one-more : (j : ℕ) (rest : List Bool) (s₂ : Session) (ws₂ : List ℕ) → s .fed + k + j ≤ linesOf s → OneFeed s₁ ws₁ j rest s₂ ws₂
       → OneFeed s ws (k + j) (more ++ rest) s₂ ws₂
   one-more j rest s₂ ws₂ fits Q =
       let N : OneFeed (feedRecord s ws k more) ws₁ j rest s₂ ws₂ = subst (λ (x : Session). OneFeed x ws₁ j rest s₂ ws₂) (O .session) Q in
@@ -252,7 +252,7 @@ pub fills-feed : {w : ℕ} {s s′ : Session} {ws ws′ ks : List ℕ} {cells : 
     → s .fed + sum ks ≤ linesOf s → OneFeed s ws (sum ks) cells s′ ws′
 unfolding sum
 fills-feed (no-more {s = s} {ws = ws}) S e h =
-    let none : Accepted s ws 0 [] = record { is-sound = S; few = omega arith; whole = sym (zero-mul (width (shapeOf s))) } in
+    let none : FeedAccepted s ws 0 [] = record { is-sound = S; few = omega arith; whole = sym (zero-mul (width (shapeOf s))) } in
     record { whole = none .whole; session = sym (record-none s ws [] none); words = words-none s ws [] none }
 fills-feed (block {s = s} {s′ = s₁} {s″ = s₂} {ws = ws} {ws′ = ws₁} {ws″ = ws₂} {k = k} {ks = ks} {cells = more} {rest = rest} {a = a} whole P F) S e h =
     let few : k ≤ linesOf s - s .fed = omega arith in
@@ -274,7 +274,7 @@ sum-chop (suc m) b L = go (leb L b) refl (sum-chop m b (L - b))
 
 pub sum-blocks : (L B : ℕ) → sum (blocks L B) ≡ L
 unfolding blocks
-sum-blocks L B = sum-chop L ((L + min (max B 1) L - 1) / min (max B 1) L) L
+sum-blocks L B = sum-chop L (blockLines L B) L
 
 -- no block is above ⌈L/B⌉ lines
 chop-most : (m b L : ℕ) → L ≤ m * b → (k : ℕ) → List·Memᴰ k (chop m b L) → k ≤ b
@@ -290,8 +290,8 @@ chop-most (suc m) b L h k i = go (leb L b) refl i (chop-most m b (L - b) (omega 
     go true e j below = let q = List·Memᴰ·eq-of-singleton j in omega (arith, q, leb-true L b e)
     go false e j below = first (List·Memᴰ·cases-cons j) below
 
-pub blocks-most : (L B : ℕ) → 0 < L → (k : ℕ) → List·Memᴰ k (blocks L B) → k ≤ (L + min (max B 1) L - 1) / min (max B 1) L
-unfolding blocks
+pub blocks-most : (L B : ℕ) → 0 < L → (k : ℕ) → List·Memᴰ k (blocks L B) → k ≤ blockLines L B
+unfolding blocks blockLines
 blocks-most L B pos k = chop-most L b L enough k
   where
     c : ℕ

@@ -35,7 +35,7 @@ use Rattle.label.specs.Record.{shapeOf, structureOf, linesOf, withFigure
 use Rattle.label.specs.Sound.{Sound}
 use Rattle.label.specs.Held.{cellsOf}
 use Rattle.label.specs.Feeding.{runsAfter, startAfter, runAfter, feedTouches, feedEdges, feedRecord, FeedWords}
-use Rattle.label.specs.Steps.{Accepted, FeedExtracted, FeedDone}
+use Rattle.label.specs.Steps.{FeedAccepted, FeedExtracted, FeedDone}
 use Rattle.label.proofs.AcceptedLaws.{accepted-fits}
 use Rattle.label.proofs.RecordGeometry.{geo-lines, geo-width, geo-left}
 use Rattle.label.proofs.StoreLaws.{Stores}
@@ -45,7 +45,7 @@ use Rattle.label.proofs.FeedWordLaws.{Aside, Wrote, wrote-others}
 use Rattle.label.proofs.FeedLaws.{fits-all, runs-after, few-after, room, room-lines, wrote-stores, touches-after, joins-after}
 use Rattle.label.proofs.FitLaws.{limits}
 
-module _ (s : Session) (ws : List ℕ) (k : ℕ) (more : List Bool) (G : Accepted s ws k more) where
+module _ (s : Session) (ws : List ℕ) (k : ℕ) (more : List Bool) (G : FeedAccepted s ws k more) where
   -- the record's shape, structure, L, w, and whether its left byte is nonzero; the cells that the words hold
   abbrev shape : List ℕ
   shape = shapeOf s
@@ -272,7 +272,7 @@ not-not : (b : Bool) → not (not b) ≡ b
 not-not true = refl
 not-not false = refl
 
-module _ (s : Session) (ws : List ℕ) (k : ℕ) (more : List Bool) (G : Accepted s ws k more) (g : Geo) (K : GeoOf (s .rank) (s .shape) (s .structure) g) where
+module _ (s : Session) (ws : List ℕ) (k : ℕ) (more : List Bool) (G : FeedAccepted s ws k more) (g : Geo) (K : GeoOf (s .rank) (s .shape) (s .structure) g) where
   left-is : not (not (g .left)) ≡ leftOn (shapeOf s) (structureOf s)
   left-is = not-not (g .left) ∙ geo-left s ws g K
 

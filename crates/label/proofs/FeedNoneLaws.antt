@@ -20,10 +20,10 @@ use Rattle.label.specs.Record.{shapeOf, structureOf, linesOf, withFigure
 use Rattle.label.specs.Sound.{Sound}
 use Rattle.label.specs.Held.{groupingOf}
 use Rattle.label.specs.Feeding.{runsAfter, feedTouches, feedEdges, feedRecord, withLines, withRuns, feedCauseOf, FeedWords, FeedPromise}
-use Rattle.label.specs.Steps.{Accepted}
+use Rattle.label.specs.Steps.{FeedAccepted}
 use Rattle.label.proofs.AcceptedLaws.{cause-accepted, accepted-fits, accepted-session}
 
-module _ (s : Session) (ws : List ℕ) (cells : List Bool) (G : Accepted s ws 0 cells) where
+module _ (s : Session) (ws : List ℕ) (cells : List Bool) (G : FeedAccepted s ws 0 cells) where
   S : Sound s ws
   S = G .is-sound
 

@@ -31,7 +31,7 @@ use Rattle.label.specs.Held.{cellsOf, HeldStep, rootCount, numberAt, siz
 use Rattle.label.specs.Opening.{openWords}
 use Rattle.label.specs.Feeding.{runsAfter, startAfter, runAfter, feedRecord, withLines, withRuns, feedCauseOf, FeedWords, FeedPromise}
 use Rattle.label.specs.Reading.{withNames, readCauseOf, ReadPromise, sizesCauseOf, SizesPromise}
-use Rattle.label.specs.Steps.{Accepted}
+use Rattle.label.specs.Steps.{FeedAccepted}
 use Rattle.label.proofs.SoundLaws.{sound-right, starts-rise, n-joins}
 use Rattle.label.proofs.AcceptedLaws.{cause-accepted}
 use Rattle.label.proofs.StoreLaws.{Stores}
@@ -129,7 +129,7 @@ module _ (s : Session) (ws : List ℕ) (k : ℕ) (cells : List Bool) (no-cause :
   abbrev new : ℕ
   new = runs (shapeOf s) (structureOf s) cells
 
-  G : Accepted s ws k cells
+  G : FeedAccepted s ws k cells
   G = cause-accepted s ws k cells no-cause
 
   H : Stores s ws (cellsOf s ws)

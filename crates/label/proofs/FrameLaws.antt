@@ -25,7 +25,7 @@ use Rattle.label.specs.Opening.{openRecord, openWords}
 use Rattle.label.specs.Feeding.{runsAfter, feedRecord, feedCauseOf, FeedWords, FeedPromise}
 use Rattle.label.specs.Reading.{withNames, countedOf, readCauseOf, ReadPromise}
 use Rattle.label.specs.WholeFrame.{Fills, allFed, earlyCauseOf, frameCauseOf, FrameWords, FramePromise}
-use Rattle.label.specs.Steps.{Accepted}
+use Rattle.label.specs.Steps.{FeedAccepted}
 use Rattle.label.proofs.AcceptedLaws.{accepted-cause, accepted-promise}
 use Rattle.label.proofs.SoundCells.{sound-stores}
 use Rattle.label.proofs.FeedLaws.{feed-shape, room}
@@ -92,7 +92,7 @@ module _ (kind : Number) (shape structure ws : List ℕ) (cells : List Bool) (ou
     whole : length cells ≡ lines shape * width (shapeOf s)
     whole = frame-facts .1 ∙ size-lines shape ∙ ap (λ (d : List ℕ). lines shape * width d) (sym (opened-shape shape structure ws A))
 
-    G : Accepted s vs (lines shape) cells
+    G : FeedAccepted s vs (lines shape) cells
     G = record { is-sound = I .is-sound; few = few; whole = whole }
 
     pub frame-feeds : feedCauseOf s vs (lines shape) cells ≡ 0

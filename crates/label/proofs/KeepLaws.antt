@@ -24,7 +24,7 @@ use Rattle.label.specs.Sound.{Sound, sound}
 use Rattle.label.specs.Held.{figuresOf, cellsOf, groupingOf}
 use Rattle.label.specs.Feeding.{feedEdges, feedRecord, feedCauseOf, FeedWords, FeedPromise}
 use Rattle.label.specs.Reading.{withNames, countedOf, readCauseOf, ReadPromise, sizesCauseOf, SizesPromise}
-use Rattle.label.specs.Steps.{Accepted}
+use Rattle.label.specs.Steps.{FeedAccepted}
 use Rattle.label.proofs.SoundLaws.{right-sound}
 use Rattle.label.proofs.AcceptedLaws.{cause-accepted, accepted-session}
 use Rattle.label.proofs.StoreLaws.{Stores, stores-cells}
@@ -39,7 +39,7 @@ module _ (s : Session) (ws : List ℕ) (I : Inv s ws) (k : ℕ) (more : List Boo
   H : Stores s ws (cellsOf s ws)
   H = sound-stores s ws (I .is-sound)
 
-  G : Accepted s ws k more
+  G : FeedAccepted s ws k more
   G = cause-accepted s ws k more no-cause
 
   -- the words hold the lines fed before and the new ones

@@ -24,7 +24,7 @@ use Rattle.label.specs.Opening.{openRecord, openWords, OpenPromise}
 use Rattle.label.specs.Feeding.{runsAfter, feedEdges, withRuns, feedCauseOf, FeedWords, FeedPromise}
 use Rattle.label.specs.Reading.{withNames, ReadPromise, SizesPromise}
 use Rattle.label.specs.WholeFrame.{Fills, no-more, block, earlyCauseOf, frameCauseOf, FramePromise}
-use Rattle.label.specs.Steps.{Accepted}
+use Rattle.label.specs.Steps.{FeedAccepted}
 use Rattle.label.proofs.AcceptedLaws.{cause-accepted}
 use Rattle.label.proofs.SoundCells.{sound-stores}
 use Rattle.label.proofs.FeedWordLaws.{length-withRuns}
@@ -61,7 +61,7 @@ module _ (s : Session) (ws : List ℕ) (k : ℕ) (cells : List Bool) (no-cause :
   abbrev es : List Edge
   es = feedEdges s ws k cells
 
-  G : Accepted s ws k cells
+  G : FeedAccepted s ws k cells
   G = cause-accepted s ws k cells no-cause
 
   parent-fits : (r : ℕ) → r < after → parentPlace L r < length ws

@@ -31,6 +31,7 @@ use Rattle.label.proofs.SoundLaws.{starts-rise}
 use Rattle.label.proofs.RecordGeometry.{geo-lines, geo-width}
 use Rattle.label.proofs.HoldLaws.{holds-parts, parts-hold, nonzero-held}
 use Rattle.label.proofs.StoreLaws.{Stores, own-holds, stores-holder}
+use Rattle.label.proofs.StoredSound.{stores-ordered}
 use Rattle.label.proofs.SoundCells.{sound-stores}
 use Rattle.label.proofs.FitLaws.{runs-fit}
 
@@ -73,11 +74,7 @@ module _ (s : Session) (ws : List ℕ) (S : Sound s ws) where
   lines-held = record {
     within = S .within;
     first = S .words .first;
-    sorted = λ ℓ h. record {
-      upto = S .words .rising ℓ h;
-      nonempty = λ r low high. S .words .nonempty r (line-run ℓ r h high);
-      ordered = λ r low high. omega (arith, S .words .ordered ℓ h r (line-run ℓ r h (omega arith)) low high);
-    };
+    sorted = stores-ordered s ws cells H;
     inside = λ r h. S .words .inside r (rw (S .words .last) at h);
   }
 

@@ -19,14 +19,14 @@ use Rattle.label.specs.Feeding.{feedRecord, FeedWords}
 
 module _ (s : Session) (ws : List ℕ) (k : ℕ) (cells : List Bool) where
   -- a sound record, lines that the frame still has, and their cells
-  pub record Accepted : Type 0 where
+  pub record FeedAccepted : Type 0 where
     pub is-sound : Sound s ws
     pub few : k ≤ linesOf s - s .fed
     pub whole : length cells ≡ k * width (shapeOf s)
 
   -- the words once the new lines' runs are extracted, and how many runs there are then
   pub record FeedExtracted (ws′ : List ℕ) (n : ℕ) : Type 0 where
-    pub given : Accepted
+    pub given : FeedAccepted
     pub block : Block (leftOn (shapeOf s) (structureOf s)) (width (shapeOf s)) (linesOf s) (s .fed) (s .runs) k cells ws ws′ n
 
   -- the record and the words after the feed

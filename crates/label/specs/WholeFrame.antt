@@ -23,9 +23,13 @@ unfoldable pub chop : ℕ → ℕ → ℕ → List ℕ
 chop zero b L = L ∷ []
 chop (suc m) b L = let rest = chop m b (L - b) in cond (leb L b) (L ∷ []) (b ∷ rest)
 
--- a block count B, where 0 counts as 1 and above L as L, and blocks of ⌈L/B⌉ lines
+-- ⌈L/B⌉ for a block count B, where 0 counts as 1 and above L as L
+unfoldable pub blockLines : ℕ → ℕ → ℕ
+blockLines L B = let c = min (max B 1) L in (L + c - 1) / c
+
+-- the blocks: each of so many lines
 unfoldable pub blocks : ℕ → ℕ → List ℕ
-blocks L B = let c = min (max B 1) L in chop L ((L + c - 1) / c) L
+blocks L B = chop L (blockLines L B) L
 
 -- feeds of so many lines each, one after the other, every one what a feed promises
 pub data Fills (w : ℕ) : Session → List ℕ → List ℕ → List Bool → Session → List ℕ → Type 0 where

@@ -25,7 +25,7 @@ ghost use Rattle.label.specs.Held.{figuresOf, rootCount, numbersHeld, si
 ghost use Rattle.label.specs.Opening.{OpenPromise, openRecord, blank};
 ghost use Rattle.label.specs.Feeding.{feedCauseOf, FeedPromise};
 ghost use Rattle.label.specs.Reading.{withNames, readCauseOf, sizesCauseOf, ReadPromise, SizesPromise};
-ghost use Rattle.label.specs.Steps.{Accepted, FeedExtracted, FeedDone, SomeExtracted, ReadAccepted};
+ghost use Rattle.label.specs.Steps.{FeedAccepted, FeedExtracted, FeedDone, SomeExtracted, ReadAccepted};
 
 // Shape and structure, then lines fed, runs and joins, so far. Entries past the rank are 0 after an opening.
 pub struct Session {
@@ -99,7 +99,7 @@ pub struct Read {
 }
 
 // What a check of a call's arguments finds.
-enum Check {
+pub enum Check {
     Passed,
     Failed(Cause),
 }
@@ -127,8 +127,8 @@ impl Session {
     }
 }
 
-// 1 to 5, where `memory` is the count of words.
-fn open_check(shape: &[usize], structure: &[u8], memory: usize) -> Check
+// 1 to 5, where `memory` is the count of words: the cause that an opening would have.
+pub fn open_check(shape: &[usize], structure: &[u8], memory: usize) -> Check
     ensures { λ r. ⌜ checkNumber r ≡ openCause (now (shape .entry)) (now (structure .entry)) memory ⌝ }
 {
     let rank = shape.len();
@@ -290,7 +290,7 @@ impl Session {
 // Their work, on a record that is known to be sound and lines that the frame still has.
 impl Session {
     fn feed_sound_u8(self, words: &mut [u32], k: usize, cells: &[u8]) -> Session
-        requires { ⌜ Accepted self (now words) k (map nz (now cells)) ⌝ }
+        requires { ⌜ FeedAccepted self (now words) k (map nz (now cells)) ⌝ }
         ensures { λ r. ⌜ FeedDone self (now (words .entry)) k (map nz (now (cells .entry))) r (now (words .exit)) ⌝ }
     {
         let g = geo::geo_of(self.rank, self.shape, &self.structure);
@@ -308,7 +308,7 @@ impl Session {
     }
 
     fn feed_sound_u16(self, words: &mut [u32], k: usize, cells: &[u16]) -> Session
-        requires { ⌜ Accepted self (now words) k (map nz (now cells)) ⌝ }
+        requires { ⌜ FeedAccepted self (now words) k (map nz (now cells)) ⌝ }
         ensures { λ r. ⌜ FeedDone self (now (words .entry)) k (map nz (now (cells .entry))) r (now (words .exit)) ⌝ }
     {
         let g = geo::geo_of(self.rank, self.shape, &self.structure);
@@ -326,7 +326,7 @@ impl Session {
     }
 
     fn feed_sound_i16(self, words: &mut [u32], k: usize, cells: &[i16]) -> Session
-        requires { ⌜ Accepted self (now words) k (map nzℤ (now cells)) ⌝ }
+        requires { ⌜ FeedAccepted self (now words) k (map nzℤ (now cells)) ⌝ }
         ensures { λ r. ⌜ FeedDone self (now (words .entry)) k (map nzℤ (now (cells .entry))) r (now (words .exit)) ⌝ }
     {
         let g = geo::geo_of(self.rank, self.shape, &self.structure);
@@ -344,7 +344,7 @@ impl Session {
     }
 
     fn feed_sound_f32(self, words: &mut [u32], k: usize, cells: &[f32]) -> Session
-        requires { ⌜ Accepted self (now words) k (map nzF (now cells)) ⌝ }
+        requires { ⌜ FeedAccepted self (now words) k (map nzF (now cells)) ⌝ }
         ensures { λ r. ⌜ FeedDone self (now (words .entry)) k (map nzF (now (cells .entry))) r (now (words .exit)) ⌝ }
     {
         let g = geo::geo_of(self.rank, self.shape, &self.structure);

@@ -97,10 +97,6 @@ pub ge-zero : (z : ℤ) → ltZ z (pos 0) ≡ false → T (nonNeg z)
 ge-zero (pos n) e = tt
 ge-zero (negsuc n) e = absurd (false≢true (sym e))
 
-pub below-fits : (z : ℤ) (d : ℕ) → d < 2 ^ 32 → ltZ z (pos 0) ≡ false → ltZ z (pos d) ≡ true → Fits w64 (natAbs z)
-below-fits (pos n) d h e q = record { fits = omega (arith, ltb-true n d q) }
-below-fits (negsuc n) d h e q = absurd (false≢true (sym e))
-
 pub nat-move : (n : ℕ) (o : ℤ) → digit o ≤ 2 → ltZ (pos n +ℤ o) (pos 0) ≡ false → natAbs (pos n +ℤ o) ≡ n + digit o - 1
 nat-move n (pos b) k e = omega arith
 nat-move n (negsuc zero) k e = sub-cases (λ z. ltZ z (pos 0) ≡ false → natAbs z ≡ n + 0 - 1) n 1 (λ q r. absurd (false≢true (sym r))) (λ q r. omega arith) e

@@ -38,12 +38,9 @@ put-other (r ∷ rs) ws i j h =
     ∙ getD-set-other (set ws (i + startAt 0) (r .start)) (i + endAt 0) j (r .end) 0 (a .1)
     ∙ getD-set-other ws (i + startAt 0) j (r .start) 0 (a .0)
 
--- words below the first run stand, and so do those past the last
+-- words below the first run stand
 pub put-below : (rs : List Run) (ws : List ℕ) (i j : ℕ) → j < i → getD (putRuns ws i rs) j 0 ≡ getD ws j 0
 put-below rs ws i j h = put-other rs ws i j (λ q p. ((λ e. omega arith), (λ e. omega arith)))
-
-pub put-above : (rs : List Run) (ws : List ℕ) (i j : ℕ) → i + stride * length rs ≤ j → getD (putRuns ws i rs) j 0 ≡ getD ws j 0
-put-above rs ws i j h = put-other rs ws i j (λ q p. ((λ e. omega arith), (λ e. omega arith)))
 
 -- run q's start and end
 pub put-start : (rs : List Run) (ws : List ℕ) (i q : ℕ) (d : Run) → q < length rs → i + stride * length rs ≤ length ws → getD (putRuns ws i rs) (i + startAt q) 0 ≡ getD rs q d .start

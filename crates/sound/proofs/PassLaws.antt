@@ -21,10 +21,6 @@ use Rattle.sound.specs.Lines.{LineInPass, RunsSound, mostCells}
 use Rattle.sound.proofs.StoredLaws.{words-right, right-words}
 use Rattle.sound.proofs.LineLaws.{or-false}
 
-pub most-runs-le : (left : Bool) (w : ℕ) → mostRuns left w ≤ w
-most-runs-le true w = omega arith
-most-runs-le false w = omega arith
-
 module _ (L w : ℕ) (left : Bool) (ws : List ℕ) where
   abbrev start : ℕ → ℕ
   start = runStart L ws

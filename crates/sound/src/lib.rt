@@ -22,7 +22,7 @@ pub fn words_sound(
     if words[0] != 0 {
         return false;
     }
-    let most = if left { (width + 1) / 2 } else { width };
+    let most = geo::most_runs(left, width);
     let mut a: usize = 0;
     let mut nonroots: usize = 0;
     let mut i: usize = 0;

@@ -1,13 +1,12 @@
 -- `words_sound` meets its contract. The loop's invariant: the lines before i are sound, with a runs, of which `nonroots` are not their own parents.
 -- Assumes nothing.
-use mathlib.Core.Path.{_≡_, subst}
-use mathlib.Core.Logic.{inl, inr}
+use mathlib.Core.Path.{subst}
 use Prim.Native.Nat.{_+_, _-_}
 use native.Mathlib.Omega.{arith}
 use borrow.Author.Needs.{needs}
-use Rattle.frame.specs.Memory.{mostRuns}
+use Rattle.frame.proofs.LineLaws.{most-runs-le}
 use Rattle.sound.specs.Lines.{LineFound}
-use Rattle.sound.proofs.PassLaws.{most-runs-le, LinesTo, lines-none, lines-more, line-wrong, line-ready, line-unsound, joins-few, answer-false, answer}
+use Rattle.sound.proofs.PassLaws.{LinesTo, lines-none, lines-more, line-wrong, line-ready, line-unsound, joins-few, answer-false, answer}
 use Rattle.sound.proofs.words_sound.Statement.{statement}
 use Rattle.sound.proofs.words_sound.Tie as tie
 
@@ -17,18 +16,14 @@ Inv-loop words lines width left fed runs joins most a₀ nonroots₀ i₀ a nonr
 abbrev μ-loop : tie.MeasureT-loop
 μ-loop words lines width left fed runs joins most a₀ nonroots₀ i₀ a nonroots i = fed - i
 
--- the most runs of a line
-is-most : (c : tie.Joined2 Inv-loop μ-loop) → c .if2 .most ≡ mostRuns (c .before .before .before .before .args .left) (c .before .before .before .before .args .width)
-is-most c = elim (c .if2 .came) [ inl w ↦ rw (w .0 .taken) (w .1) | inr w ↦ rw (w .0 .left) (w .1) ]
-
 shared-slice-read-if1 : tie.Need-shared-slice-read-if1 Inv-loop μ-loop
 shared-slice-read-if1 c = search needs
 
 returns : tie.Need-returns Inv-loop μ-loop
 returns c = answer-false _ _ _ _ _ _ _ (λ W. omega (arith, c .if1 .taken, W .first))
 
-add-most : tie.Need-add-most Inv-loop μ-loop
-add-most c = search needs
+most-runs-requires : tie.Need-most-runs-requires Inv-loop μ-loop
+most-runs-requires c κs = search needs
 
 loop-holds : tie.Need-loop-holds Inv-loop μ-loop
 loop-holds c = lines-none _ _ _ _ _ (omega (arith, c .before .if1 .left))
@@ -45,29 +40,29 @@ shared-slice-read-b c = search needs
 cast-b : tie.Need-cast-b Inv-loop μ-loop
 cast-b c = omega (arith, c .shared-slice-known3 .given (c .before .before .loop .i + 1))
 
-add-if3 : tie.Need-add-if3 Inv-loop μ-loop
-add-if3 c =
-    let l = c .before .before .before in
-    let s = l .before .before .before .before .before in
-    omega (arith, c .before .shared-slice-known3 .given (l .loop .i), l .loop .inv .sound .last, is-most (l .before), most-runs-le (s .args .left) (s .args .width), s .pre .short)
+add-if2 : tie.Need-add-if2 Inv-loop μ-loop
+add-if2 c =
+    let l = c .before .before in
+    let s = c .before .before .before .before .before .before .before in
+    omega (arith, c .shared-slice-known3 .given (l .loop .i), l .loop .inv .sound .last, l .before .most-runs .ensures, most-runs-le (s .args .left) (s .args .width), s .pre .short)
 
 returns-2 : tie.Need-returns-2 Inv-loop μ-loop
-returns-2 c = let l = c .before .before .before .before in answer-false _ _ _ _ _ _ _ (line-wrong _ _ _ _ (is-most (l .before)) (l .loop .inv) (omega arith) (c .if3 .taken))
+returns-2 c = let l = c .before .before .before in answer-false _ _ _ _ _ _ _ (line-wrong _ _ _ _ (l .before .most-runs .ensures) (l .loop .inv) (omega arith) (c .if2 .taken))
 
 line-sound-requires : tie.Need-line-sound-requires Inv-loop μ-loop
-line-sound-requires c κs = let l = c .before .before .before .before in line-ready _ _ _ _ (is-most (l .before)) (l .loop .inv) (omega arith) (c .if3 .left) (l .before .before .before .before .before .pre)
+line-sound-requires c κs = let l = c .before .before .before in line-ready _ _ _ _ (l .before .most-runs .ensures) (l .loop .inv) (omega arith) (c .if2 .left) (c .before .before .before .before .before .before .before .before .pre)
 
 enum-known-k : tie.Need-enum-known-k Inv-loop μ-loop
 enum-known-k c = search needs
 
 loop-again : tie.Need-loop-again Inv-loop μ-loop
 loop-again c =
-    let l = c .before .before .before .before .before .before .before .before in
-    lines-more _ _ _ _ (is-most (l .before)) (l .loop .inv) (omega arith) _ (c .before .before .before .before .if3 .left) (subst (LineFound _ _ _ _ _ _) (c .before .k .given .1) (c .before .before .before .line-sound .ensures))
+    let l = c .before .before .before .before .before .before .before in
+    lines-more _ _ _ _ (l .before .most-runs .ensures) (l .loop .inv) (omega arith) _ (c .before .before .before .before .if2 .left) (subst (LineFound _ _ _ _ _ _) (c .before .k .given .1) (c .before .before .before .line-sound .ensures))
 
 -- no more of them than runs
 add-nonroots : tie.Need-add-nonroots Inv-loop μ-loop
-add-nonroots c = let l = c .before .before .before .before .before .before .before .before in omega (arith, joins-few _ _ _ _ (loop-again c), c .before .before .before .before .before .before .shared-slice-known3 .given (l .loop .i + 1))
+add-nonroots c = omega (arith, joins-few _ _ _ _ (loop-again c), c .before .before .before .before .before .shared-slice-known3 .given (c .before .before .before .before .before .before .before .loop .i + 1))
 
 add-i : tie.Need-add-i Inv-loop μ-loop
 add-i c = search needs
@@ -80,8 +75,8 @@ enum-told c = search needs
 
 returns-3 : tie.Need-returns-3 Inv-loop μ-loop
 returns-3 c =
-    let l = c .before .before .before .before .before .before .before in
-    answer-false _ _ _ _ _ _ _ (line-unsound _ _ _ _ (is-most (l .before)) (l .loop .inv) (omega arith) (subst (LineFound _ _ _ _ _ _) (c .enum-told .given .1) (c .before .before .line-sound .ensures)))
+    let l = c .before .before .before .before .before .before in
+    answer-false _ _ _ _ _ _ _ (line-unsound _ _ _ _ (l .before .most-runs .ensures) (l .loop .inv) (omega arith) (subst (LineFound _ _ _ _ _ _) (c .enum-told .given .1) (c .before .before .line-sound .ensures)))
 
 returns-4 : tie.Need-returns-4 Inv-loop μ-loop
 returns-4 c = answer _ _ _ _ _ _ _ (c .before .loop .inv) (omega arith)
@@ -94,13 +89,13 @@ words-sound-spec =
     μ-loop
     shared-slice-read-if1
     returns
-    add-most
+    most-runs-requires
     loop-holds
     add-b
     mul-b
     shared-slice-read-b
     cast-b
-    add-if3
+    add-if2
     returns-2
     line-sound-requires
     enum-known-k
