@@ -4,6 +4,7 @@ pub mod StructureLaws
 pub mod ChainRuleLaws
 pub mod ListLaws
 pub mod SetLaws
+pub mod OverlayLaws
 pub mod EntryLaws
 pub mod LineLaws
 pub mod RunLaws

@@ -2,6 +2,7 @@ pub mod Shape
 pub mod Structure
 pub mod ChainRule
 pub mod Lists
+pub mod Overlay
 pub mod Runs
 pub mod Touches
 pub mod Kinds

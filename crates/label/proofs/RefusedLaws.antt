@@ -20,7 +20,7 @@ use Rattle.label.specs.Feeding.{feedRecord, feedCauseOf, FeedPromise}
 use Rattle.label.specs.Reading.{withNames, countedOf, readCauseOf, ReadPromise, sizesCauseOf, SizesPromise}
 
 -- no cause has the number 0
-positive : (c : Cause) → 0 < causeNumber c
+pub positive : (c : Cause) → 0 < causeNumber c
 positive C.Rank = omega arith
 positive C.StructureLength = omega arith
 positive C.ZeroDimension = omega arith

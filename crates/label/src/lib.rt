@@ -1,5 +1,5 @@
 // The record and its calls: opening, feeds, readings, sizes. What each call promises is in specs/: Opening, Feeding, Reading; no call
-// asks anything of its caller. WholeFrame has the promise of a whole frame, which is not written yet.
+// asks anything of its caller. WholeFrame has the promise of a whole frame, which crate whole keeps.
 //
 //     Session::open      a record of a shape, a structure and working memory
 //     Session::feed_T    the next lines of the frame, for each kind of cell
@@ -19,7 +19,7 @@ ghost use lib.ListN.{length};
 ghost use Rattle.frame.specs.Causes.{openCause};
 ghost use Rattle.frame.specs.Kinds.{nz, nzℤ, nzF, Number, u8, u16, u32, largest};
 ghost use Rattle.frame.specs.Plain.{fed, counted};
-ghost use Rattle.label.specs.Cases.{openNumber, checkNumber, feedAnswer, readAnswer};
+ghost use Rattle.label.specs.Cases.{causeNumber, openNumber, checkNumber, feedAnswer, readAnswer};
 ghost use Rattle.label.specs.Sound.{Sound, sound};
 ghost use Rattle.label.specs.Held.{figuresOf, rootCount, numbersHeld, sizesHeld};
 ghost use Rattle.label.specs.Opening.{OpenPromise, openRecord, blank};
@@ -59,6 +59,26 @@ pub enum Cause {
     Length,
     // n above the kind's largest
     Kind,
+}
+
+impl Cause {
+    // Document 01's number.
+    pub fn number(self) -> u32
+        ensures { λ r. ⌜ r ≡ causeNumber self ⌝ }
+    {
+        match self {
+            Cause::Rank => 1,
+            Cause::StructureLength => 2,
+            Cause::ZeroDimension => 3,
+            Cause::TooLarge => 4,
+            Cause::Memory => 5,
+            Cause::Unsound => 6,
+            Cause::Lines => 7,
+            Cause::Cells => 8,
+            Cause::Length => 9,
+            Cause::Kind => 10,
+        }
+    }
 }
 
 pub enum OpenAnswer {
