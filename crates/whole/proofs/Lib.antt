@@ -1,0 +1,4 @@
+pub mod FrameCheckLaws
+pub mod FillLaws
+pub mod NumberingLaws
+pub mod WholeLaws
