@@ -1,0 +1,99 @@
+-- A list of calls as numbers, four to a call, and its answers as numbers.
+-- Assumes nothing.
+use mathlib.Core.Bool.{cond}
+use mathlib.Core.List.{List, [], _∷_, _++_}
+use Prim.Native.Nat.{ℕ, _+_, _%_, _^_}
+use lib.Dec.{leb}
+use lib.IntN.{ℤ}
+use lib.Ieee.{Float}
+use lib.ListN.{length, getD, take, drop, replicate}
+use Rattle.frame.specs.Kinds.{Cells, u8s, u16s, i16s, f32s, Number, u8, u16, u32}
+use Rattle.frame.specs.Plain.{Call, feed, read, sizes, Answer, fed, counted, refused, Written, nothing, numbers, counts, Answered}
+
+-- ---- calls
+
+-- what is lent to them: cells of each kind, and how many places an output of each kind may have
+pub record Lent : Type 0 where
+  pub u8s : List ℕ
+  pub u16s : List ℕ
+  pub i16s : List ℤ
+  pub f32s : List Float
+  pub room8 : ℕ
+  pub room16 : ℕ
+  pub room32 : ℕ
+
+-- four numbers are a call, or no call
+pub data Entry : Type 0 where
+  call : Call → Entry
+  no-call : Entry
+
+-- a feed of k lines, whose cells are the c entries from place b on. A part beyond the lent cells is no call
+unfoldable pub feedOf : {A : Type 0} → (List A → Cells) → List A → ℕ → ℕ → ℕ → Entry
+feedOf kind cells k b c = cond (leb (b + c) (length cells)) (call (feed k (kind (take c (drop b cells))))) no-call
+
+-- what a place of that kind holds of the number b
+abbrev pub held : Number → ℕ → ℕ
+held u8 b = b % 2 ^ 8
+held u16 b = b % 2 ^ 16
+held u32 b = b % 2 ^ 32
+
+-- an output of a places that hold b before, for a reading of that kind and for the size call. More places than the room has are no call
+unfoldable pub readOf : (kind : Number) → ℕ → ℕ → ℕ → Entry
+readOf kind room a b = cond (leb a room) (call (read kind (replicate a (held kind b)))) no-call
+
+unfoldable pub sizesOf : ℕ → ℕ → ℕ → Entry
+sizesOf room a b = cond (leb a room) (call (sizes (replicate a (held u32 b)))) no-call
+
+-- (code, a, b, c): codes 0 to 3 feed, 4 to 6 read, 7 is the size call, and another code is no call
+unfoldable pub entryOf : Lent → ℕ → ℕ → ℕ → ℕ → Entry
+entryOf l code a b c =
+    getD (feedOf u8s (l .u8s) a b c
+    ∷ feedOf u16s (l .u16s) a b c
+    ∷ feedOf i16s (l .i16s) a b c
+    ∷ feedOf f32s (l .f32s) a b c
+    ∷ readOf u8 (l .room8) a b
+    ∷ readOf u16 (l .room16) a b
+    ∷ readOf u32 (l .room32) a b
+    ∷ sizesOf (l .room32) a b
+    ∷ []) code no-call
+
+-- one to three numbers left over at the end are no call
+unfoldable pub decode : Lent → List ℕ → List Entry
+decode l [] = []
+decode l (code ∷ []) = no-call ∷ []
+decode l (code ∷ a ∷ []) = no-call ∷ []
+decode l (code ∷ a ∷ b ∷ []) = no-call ∷ []
+decode l (code ∷ a ∷ b ∷ c ∷ rest) = entryOf l code a b c ∷ decode l rest
+
+unfoldable pub callsOf : List Entry → List Call
+callsOf [] = []
+callsOf (call c ∷ es) = c ∷ callsOf es
+callsOf (no-call ∷ es) = callsOf es
+
+-- ---- answers
+
+-- the number of what is no call: document 01 and document 02 end at 19, and the numbers from 100 on are ours
+abbrev pub noCall : ℕ
+noCall = 101
+
+-- four numbers for what is answered
+abbrev pub answerNumbers : Answer → List ℕ
+answerNumbers (fed l f) = 0 ∷ l ∷ f .runs ∷ f .joins ∷ []
+answerNumbers (counted n f) = 0 ∷ n ∷ f .runs ∷ f .joins ∷ []
+answerNumbers (refused c) = c ∷ 0 ∷ 0 ∷ 0 ∷ []
+
+-- and then what the output holds, place by place
+abbrev pub outputNumbers : Written → List ℕ
+outputNumbers nothing = []
+outputNumbers (numbers kind out) = out
+outputNumbers (counts out) = out
+
+unfoldable pub numbersOf : Answered → List ℕ
+numbersOf a = answerNumbers (a .said) ++ outputNumbers (a .written)
+
+-- the answers of the calls, with those of what is no call in their places. Each call has its answer
+unfoldable pub woven : List Entry → List Answered → List ℕ
+woven [] az = []
+woven (no-call ∷ es) az = noCall ∷ 0 ∷ 0 ∷ 0 ∷ woven es az
+woven (call c ∷ es) [] = []
+woven (call c ∷ es) (a ∷ az) = numbersOf a ++ woven es az

@@ -1,0 +1,4 @@
+pub mod CallList
+pub mod Rooms
+pub mod Making
+pub mod Made
