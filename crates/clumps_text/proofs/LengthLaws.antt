@@ -1,0 +1,149 @@
+-- How long texts get: no accepted text has more than 2,349 bytes, so a longer one is refused (`long-refused`), and no output has more
+-- than 11,561 (`output-most`).
+-- Assumes nothing.
+use mathlib.Core.Path.{_≡_, refl, ap, subst}
+use mathlib.Core.Logic.{_⊎_, inl, inr}
+use mathlib.Core.Bool.{Bool, true, false}
+use mathlib.Core.List.{List, [], _∷_, map}
+use Prim.Native.Nat.{ℕ, suc, _-_, _*_, _/_, _≤_, _<_}
+use native.Mathlib.Nat.{le-trans}
+use native.Mathlib.Omega.{arith}
+use borrow.Author.Tests.{ltb-true, ltb-false}
+use lib.Dec.{ltb}
+use lib.ListN.{length, getD, length-append, length-map}
+use Rattle.groups.proofs.CountLaws.{count-most}
+use Rattle.frame.specs.Shape.{size}
+use Rattle.frame.specs.ChainRule.{nonzero, groupCount, labels}
+use Rattle.frame.specs.Runs.{beginsRun, runs}
+use Rattle.frame.proofs.ChainRuleLaws.{labels-right, length-labels}
+use Rattle.clumps_text.specs.Text.{decimal, blankBefore, decimals, flagByte, widthName, linesName, structureName, cellsName, runsName, joinsName, objectsName, labelsName, refusedName}
+use Rattle.clumps_text.specs.Input.{Frame, Accepted, textBefore, Reading, read, bad, parse}
+use Rattle.clumps_text.specs.Output.{shapeOf, structureOf, refusal, answer, answerTo, answerOf, printed, clumpsOf}
+use Rattle.clumps_text.proofs.DecimalLaws.{decimal-small, decimal-more}
+use Rattle.clumps_text.proofs.InputLaws.{parse-back}
+use Rattle.clumps_text.proofs.FrameLaws.{product}
+use Rattle.clumps_text.proofs.LabelLaws.{groups-most}
+
+-- ---- numbers
+
+one-digit : (n : ℕ) → n < 10 → length (decimal n) ≤ 1
+one-digit n h = rw (decimal-small n h) (omega arith)
+
+-- numbers below ten times m have one digit more than those below m
+digit-more : (m k : ℕ) → ((n : ℕ) → n < m → length (decimal n) ≤ k) → (n : ℕ) → n < 10 * m → length (decimal n) ≤ suc k
+digit-more m k f n h = go (ltb n 10) refl
+  where
+    go : (b : Bool) → ltb n 10 ≡ b → length (decimal n) ≤ suc k
+    go true e = omega (arith, one-digit n (ltb-true n 10 e))
+    go false e =
+        let l : 10 ≤ n = ltb-false n 10 e in
+        let t : length (decimal (n / 10)) ≤ k = f (n / 10) (omega arith) in
+        rw (decimal-more n l) (simp length-append (omega arith))
+
+two-digits : (n : ℕ) → n < 100 → length (decimal n) ≤ 2
+two-digits = digit-more 10 1 one-digit
+
+four-digits : (n : ℕ) → n < 10000 → length (decimal n) ≤ 4
+four-digits = digit-more 1000 3 (digit-more 100 2 two-digits)
+
+Small : List ℕ → Type 0
+Small ns = (i : ℕ) → i < length ns → getD ns i 0 < 10000
+
+blanks-most : (ns : List ℕ) → Small ns → length (blankBefore ns) ≤ 5 * length ns
+unfolding blankBefore Small
+blanks-most [] h = omega arith
+blanks-most (n ∷ ns) h =
+    let a = four-digits n (h 0 (omega arith)) in
+    let b = blanks-most ns (λ i l. h (suc i) (omega arith)) in
+    simp length-append (omega arith)
+
+decimals-most : (ns : List ℕ) → Small ns → length ns ≤ 2304 → length (decimals ns) ≤ 11519
+unfolding decimals Small
+decimals-most [] h m = omega arith
+decimals-most (n ∷ ns) h m =
+    let a = four-digits n (h 0 (omega arith)) in
+    let b = blanks-most ns (λ i l. h (suc i) (omega arith)) in
+    simp length-append (omega arith)
+
+-- ---- outputs
+
+refusal-most : length (refusal 11) ≤ 11561
+unfolding refusal refusedName
+refusal-most =
+    let t = two-digits 11 (omega arith) in
+    simp length-append (omega arith)
+
+answer-most : (r j n : ℕ) (ns : List ℕ) → r < 10000 → j < 10000 → n < 10000 → Small ns → length ns ≤ 2304 → length (answer r j n ns) ≤ 11561
+unfolding answer runsName joinsName objectsName labelsName
+answer-most r j n ns a b c s m =
+    let x = four-digits r a in
+    let y = four-digits j b in
+    let z = four-digits n c in
+    let w = decimals-most ns s m in
+    simp length-append (omega arith)
+
+module _ (f : Frame) (a : Accepted f) where
+  cells-most : size (shapeOf f) ≤ 2304
+  unfolding size
+  cells-most = omega (arith, product (a .most-lines) (a .most-width))
+
+  count-small : groupCount (shapeOf f) (structureOf f) (f .cells) < 10000
+  count-small = omega (arith, groups-most (shapeOf f) (structureOf f) (f .cells), cells-most)
+
+  runs-small : runs (shapeOf f) (structureOf f) (f .cells) < 10000
+  unfolding runs
+  runs-small = omega (arith, count-most (beginsRun (shapeOf f) (structureOf f) (f .cells)) (size (shapeOf f)), cells-most)
+
+  labels-small : Small (labels (shapeOf f) (structureOf f) (f .cells))
+  unfolding Small
+  labels-small p h = go (nonzero (f .cells) p) refl
+    where
+      l : p < size (shapeOf f)
+      l = subst (λ (k : ℕ). p < k) (length-labels (shapeOf f) (structureOf f) (f .cells)) h
+
+      go : (b : Bool) → nonzero (f .cells) p ≡ b → getD (labels (shapeOf f) (structureOf f) (f .cells)) p 0 < 10000
+      go true e = omega (arith, labels-right (shapeOf f) (structureOf f) (f .cells) .on p l e .1, count-small)
+      go false e = omega (arith, labels-right (shapeOf f) (structureOf f) (f .cells) .off p l e)
+
+  accepted-most : length (answerOf f) ≤ 11561
+  unfolding answerTo
+  accepted-most =
+      let r = runs (shapeOf f) (structureOf f) (f .cells) in
+      let n = groupCount (shapeOf f) (structureOf f) (f .cells) in
+      let ns = labels (shapeOf f) (structureOf f) (f .cells) in
+      answer-most r (r - n) n ns runs-small (omega (arith, runs-small)) count-small labels-small (omega (arith, length-labels (shapeOf f) (structureOf f) (f .cells), cells-most))
+
+pub output-most : (text : List ℕ) → length (clumpsOf text) ≤ 11561
+unfolding clumpsOf printed
+output-most text = go (parse text) refl
+  where
+    go : (x : Reading Frame) → parse text ≡ x → length (printed x) ≤ 11561
+    go (read f []) e = accepted-most f (parse-back text f [] e .accepted)
+    go (read f (b ∷ rest)) e = refusal-most
+    go bad e = refusal-most
+
+-- ---- inputs
+
+flags-most : (s : List Bool) → (length s ≡ 0) ⊎ (length s ≡ 9) → length s ≤ 9
+flags-most s (inl e) = omega arith
+flags-most s (inr e) = omega arith
+
+text-most : (f : Frame) → Accepted f → length (textBefore f []) ≤ 2349
+unfolding textBefore widthName linesName structureName cellsName
+text-most f a =
+    let w = two-digits (f .width) (omega (arith, a .most-width)) in
+    let l = two-digits (f .lines) (omega (arith, a .most-lines)) in
+    let s : length (map flagByte (f .structure)) ≤ 9 = le-trans (omega (arith, length-map (f .structure) flagByte)) (flags-most (f .structure) (a .nine-or-none)) in
+    let c : length (map flagByte (f .cells)) ≤ 2304 = omega (arith, length-map (f .cells) flagByte, a .all-cells, product (a .most-lines) (a .most-width)) in
+    simp length-append (omega arith)
+
+pub long-refused : (text : List ℕ) → 2349 < length text → clumpsOf text ≡ refusal 11
+unfolding clumpsOf printed
+long-refused text h = go (parse text) refl
+  where
+    go : (x : Reading Frame) → parse text ≡ x → printed x ≡ refusal 11
+    go (read f []) e =
+        let t = parse-back text f [] e in
+        absurd (omega (arith, ap length (t .text), text-most f (t .accepted)))
+    go (read f (b ∷ rest)) e = refl
+    go bad e = refl

@@ -1,0 +1,153 @@
+-- What was read decides what is printed: the whole text accepted with its frame's answer, or refused by 11.
+-- Assumes nothing.
+use mathlib.Core.Path.{_≡_, refl, sym, ap, _∙_, subst}
+use mathlib.Core.Bool.{Bool, true, false}
+use mathlib.Core.List.{List, [], _∷_, _++_, map}
+use Prim.Native.Nat.{ℕ, _-_, _*_, _≤_}
+use native.Mathlib.Omega.{arith}
+use lib.ListN.{length, take, drop, length-append}
+use lib.Seq.{length-take-le, take-at}
+use Rattle.frame.specs.ChainRule.{groupCount}
+use Rattle.frame.specs.Kinds.{nz}
+use Rattle.frame.specs.Plain.{Answer}
+use Rattle.frame.specs.Runs.{runs}
+use Rattle.clumps_text.specs.declared.Place.{Place}
+use Rattle.clumps_text.specs.declared.Place.the-variants.{At, Nowhere}
+use Rattle.clumps_text.specs.declared.Sizes.{Sizes}
+use Rattle.clumps_text.specs.Input.{Frame, Reading, read, bad, then, parse}
+use Rattle.clumps_text.specs.Output.{bit, structureOf, refusal, answer, answerTo, printed, clumpsOf}
+use Rattle.frame.specs.Overlay.{Holds}
+use Rattle.clumps_text.specs.Steps.{readFrom, Bytes, frameBytes, bytesRead, FrameRead, isEmpty, endsAt, LabelReady, Labels, answerText}
+use Rattle.clumps_text.proofs.InputLaws.{through, same-read, same-rest, parse-back}
+use Rattle.clumps_text.proofs.FrameLaws.{product}
+
+-- ---- parts of slices
+
+pub prefix-long : (n : ℕ) (l : List ℕ) → n ≤ length l → n ≡ length (take n l)
+prefix-long n l h = sym (length-take-le n l h)
+
+module _ (new rest : List ℕ) {n : ℕ} (h : length new ≡ n) where
+  pub prefix-room : n ≤ length (new ++ rest)
+  prefix-room = simp length-append (omega arith)
+
+  pub prefix-new : take n (new ++ rest) ≡ new
+  prefix-new = take-at new rest n h
+
+-- ---- labels printed
+
+pub ready : {w l : ℕ} {structure cells numbers : List ℕ} → LabelReady w l structure cells numbers 2304 → LabelReady w l structure (take (l * w) cells) (take (l * w) numbers) (l * w)
+ready {w} {l} {structure} {cells} {numbers} r =
+    let p = product (r .most-lines) (r .most-width) in
+    record {
+      some-width = r .some-width;
+      most-width = r .most-width;
+      some-lines = r .some-lines;
+      most-lines = r .most-lines;
+      nine = r .nine;
+      bytes = sym (prefix-long (l * w) cells (omega (arith, r .bytes)));
+      places = sym (prefix-long (l * w) numbers (omega (arith, r .places)));
+    }
+
+pub labels-printed : {shape structure : List ℕ} {cells : List Bool} {a : Answer} {new : List ℕ} (numbers : List ℕ) {ys out : List ℕ} {at : ℕ} → numbers ≡ new → Labels shape structure cells a new → Holds (answerText a numbers) ys out at → Holds (answerTo shape structure cells) ys out at
+unfolding answerTo
+labels-printed {shape} {structure} {cells} {a} numbers {ys} {out} {at} e l p =
+    let r = runs shape structure cells in
+    let n = groupCount shape structure cells in
+    let x : answerText a numbers ≡ answerTo shape structure cells = ap (λ (b : Answer). answerText b numbers) (l .said) ∙ ap (λ (ns : List ℕ). answer r (r - n) n ns) (e ∙ l .labelled) in
+    subst (λ (t : List ℕ). Holds t ys out at) x p
+
+-- ---- flags and bytes
+
+nz-bit : (b : Bool) → nz (bit b) ≡ b
+unfolding nz
+nz-bit true = refl
+nz-bit false = refl
+
+flags-bytes : (fs : List Bool) → map nz (map bit fs) ≡ fs
+flags-bytes [] = refl
+flags-bytes (b ∷ fs) = ap (λ (c : Bool). c ∷ map nz (map bit fs)) (nz-bit b) ∙ ap (λ (l : List Bool). b ∷ l) (flags-bytes fs)
+
+-- ---- the whole text
+
+-- a frame was read, and nothing stands after it
+pub record Whole (text structure cells : List ℕ) (z : Sizes) : Type 0 where
+  pub frame : Frame
+  pub is-read : parse text ≡ read frame []
+  pub width : frame .width ≡ z .width
+  pub lines : frame .lines ≡ z .lines
+  pub structure-is : structureOf frame ≡ structure
+  pub cells-are : frame .cells ≡ map nz (take (z .lines * z .width) cells)
+
+module _ (text structure cells : List ℕ) (z : Sizes) (r : FrameRead text structure cells z) where
+  abbrev taken : Bytes
+  taken = record { width = z .width; lines = z .lines; structure = structure; cells = take (z .lines * z .width) cells }
+
+  empty : (t : List ℕ) → isEmpty t ≡ true → t ≡ []
+  unfolding isEmpty
+  empty [] e = refl
+  empty (b ∷ t) e = absurd (let y : _≡_ {A = ℕ} 0 1 = cc in omega arith)
+
+  whole-at : (p : Place) → endsAt text p ≡ true → readFrom text p (read taken) ≡ bytesRead (parse text) → Whole text structure cells z
+  unfolding bytesRead frameBytes
+  whole-at (At at) e h =
+      let t = through (parse text) (λ f s. read (frameBytes f) s) (sym h) in
+      let f = t .first in
+      let q : frameBytes f ≡ taken = same-read (t .goes-on) in
+      let n : t .after ≡ [] = same-rest (t .goes-on) ∙ empty (drop at text) e in
+      record {
+        frame = f;
+        is-read = t .reads ∙ ap (λ (s : List ℕ). read f s) n;
+        width = ap (λ (b : Bytes). b .width) q;
+        lines = ap (λ (b : Bytes). b .lines) q;
+        structure-is = ap (λ (b : Bytes). b .structure) q;
+        cells-are = sym (flags-bytes (f .cells)) ∙ ap (λ (b : Bytes). map nz (b .cells)) q;
+      }
+  whole-at Nowhere e h = absurd (let y : _≡_ {A = ℕ} 0 1 = cc in omega arith)
+
+  pub whole : endsAt text (z .next) ≡ true → Whole text structure cells z
+  whole e = whole-at (z .next) e (r .reads)
+
+  pub whole-ready : {numbers : List ℕ} → endsAt text (z .next) ≡ true → length structure ≡ 9 → length cells ≡ 2304 → length numbers ≡ 2304 → LabelReady (z .width) (z .lines) structure cells numbers 2304
+  whole-ready e s c n =
+      let w = whole e in
+      let a = parse-back text (w .frame) [] (w .is-read) .accepted in
+      record {
+        some-width = subst (λ (k : ℕ). 1 ≤ k) (w .width) (a .some-width);
+        most-width = r .most-width;
+        some-lines = subst (λ (k : ℕ). 1 ≤ k) (w .lines) (a .some-lines);
+        most-lines = r .most-lines;
+        nine = s;
+        bytes = c;
+        places = n;
+      }
+
+  pub whole-answer : endsAt text (z .next) ≡ true → answerTo (z .lines ∷ z .width ∷ []) structure (map nz (take (z .lines * z .width) cells)) ≡ clumpsOf text
+  unfolding clumpsOf printed
+  whole-answer e =
+      let w = whole e in
+      let f = w .frame in
+      let a : clumpsOf text ≡ answerTo (f .lines ∷ f .width ∷ []) (structureOf f) (f .cells) = ap printed (w .is-read) in
+      sym (a ∙ (ap (λ (k : ℕ). answerTo (k ∷ f .width ∷ []) (structureOf f) (f .cells)) (w .lines) ∙ (ap (λ (k : ℕ). answerTo (z .lines ∷ k ∷ []) (structureOf f) (f .cells)) (w .width) ∙ (ap (λ (s : List ℕ). answerTo (z .lines ∷ z .width ∷ []) s (f .cells)) (w .structure-is) ∙ ap (answerTo (z .lines ∷ z .width ∷ []) structure) (w .cells-are)))))
+
+  refused-with : (x : Reading Frame) (t : List ℕ) → isEmpty t ≡ false → read taken t ≡ bytesRead x → printed x ≡ refusal 11
+  unfolding bytesRead then printed isEmpty
+  refused-with (read f []) t e h = absurd (let u = same-rest h in let y : _≡_ {A = ℕ} 0 1 = cc in omega arith)
+  refused-with (read f (b ∷ s)) t e h = refl
+  refused-with bad t e h = refl
+
+  refused-bad : (x : Reading Frame) → bad ≡ bytesRead x → printed x ≡ refusal 11
+  unfolding bytesRead then printed
+  refused-bad (read f s) h = absurd (let y : _≡_ {A = ℕ} 0 1 = cc in omega arith)
+  refused-bad bad h = refl
+
+  refused-at : (p : Place) → endsAt text p ≡ false → readFrom text p (read taken) ≡ bytesRead (parse text) → refusal 11 ≡ clumpsOf text
+  unfolding clumpsOf
+  refused-at (At at) e h = sym (refused-with (parse text) (drop at text) e h)
+  refused-at Nowhere e h = sym (refused-bad (parse text) h)
+
+  pub refused-answer : endsAt text (z .next) ≡ false → refusal 11 ≡ clumpsOf text
+  refused-answer e = refused-at (z .next) e (r .reads)
+
+-- the two facts that the program promises
+pub reported : {xs ys out : List ℕ} {at : ℕ} (text : List ℕ) → xs ≡ clumpsOf text → Holds xs ys out at → Holds (clumpsOf text) ys out at
+reported {ys = ys} {out} {at} text e p = subst (λ (l : List ℕ). Holds l ys out at) e p

@@ -1,0 +1,91 @@
+-- The program's input, document 01's four lines: as the text of a frame, and as the frame read from a text. That the two are one is
+-- proved in proofs/InputLaws.antt.
+-- Assumes nothing.
+use mathlib.Core.Path.{_≡_}
+use mathlib.Core.Logic.{_⊎_}
+use mathlib.Core.Bool.{Bool, cond, _&&_, _||_}
+use mathlib.Core.List.{List, [], _∷_, _++_, map}
+use Prim.Native.Nat.{ℕ, zero, suc, _+_, _-_, _*_, _≤_}
+use lib.Dec.{eqb, leb}
+use lib.ListN.{length, getD}
+use Rattle.clumps_text.specs.Text.{line, decimal, flagByte, widthName, linesName, structureName, cellsName}
+
+-- ---- the text of a frame
+
+-- what the lines say. No structure flags stand for SciPy's default; the cells are in C order
+pub record Frame : Type 0 where
+  pub width : ℕ
+  pub lines : ℕ
+  pub structure : List Bool
+  pub cells : List Bool
+
+-- width and lines are 1 to 48, the structure is nine flags or none, and there are width × lines cells
+pub record Accepted (f : Frame) : Type 0 where
+  pub some-width : 1 ≤ f .width
+  pub most-width : f .width ≤ 48
+  pub some-lines : 1 ≤ f .lines
+  pub most-lines : f .lines ≤ 48
+  pub nine-or-none : (length (f .structure) ≡ 0) ⊎ (length (f .structure) ≡ 9)
+  pub all-cells : length (f .cells) ≡ f .lines * f .width
+
+-- the four lines, and a rest
+unfoldable pub textBefore : Frame → List ℕ → List ℕ
+textBefore f rest =
+    line widthName (decimal (f .width))
+    (line linesName (decimal (f .lines)) (line structureName (map flagByte (f .structure)) (line cellsName (map flagByte (f .cells)) rest)))
+
+unfoldable pub textOf : Frame → List ℕ
+textOf f = textBefore f []
+
+-- ---- the frame read from a text
+
+-- what was read, and the text after it; or that the text is not of the form
+pub data Reading (A : Type 0) : Type 0 where
+  read : A → List ℕ → Reading A
+  bad : Reading A
+
+-- go on with what was read and the text after it
+unfoldable pub then : {A B : Type 0} → Reading A → (A → List ℕ → Reading B) → Reading B
+then (read a t) k = k a t
+then bad k = bad
+
+-- bytes that must stand here
+unfoldable pub bytes : List ℕ → List ℕ → Reading (Unit {0})
+bytes [] t = read tt t
+bytes (x ∷ xs) [] = bad
+bytes (x ∷ xs) (y ∷ t) = cond (eqb x y) (bytes xs t) bad
+
+-- the value of one digit, where byte 10 follows it, else of two; whatever bytes stand here
+unfoldable pub value : List ℕ → ℕ
+value t = cond (eqb (getD t 1 0) 10) (getD t 0 0 - 48) (10 * (getD t 0 0 - 48) + (getD t 1 0 - 48))
+
+-- a number from 1 to 48, decimal without leading zeros, and the byte 10 that ends its line
+unfoldable pub number : List ℕ → Reading ℕ
+number t = cond (leb 1 (value t) && leb (value t) 48) (then (bytes (decimal (value t) ++ (10 ∷ [])) t) λ _ r. read (value t) r) bad
+
+-- n characters 0 or 1
+unfoldable pub flags : ℕ → List ℕ → Reading (List Bool)
+flags zero t = read [] t
+flags (suc n) [] = bad
+flags (suc n) (b ∷ t) = cond (eqb b 48 || eqb b 49) (then (flags n t) λ fs r. read (eqb b 49 ∷ fs) r) bad
+
+-- how many flags the structure's line has: none where it ends at once
+unfoldable pub given : List ℕ → ℕ
+given t = cond (eqb (getD t 0 0) 10) 0 9
+
+-- the last two lines, where the first two say w and l
+unfoldable pub lastLines : ℕ → ℕ → List ℕ → Reading Frame
+lastLines w l t₁ =
+    then (bytes structureName t₁) λ _ t₂.
+    then (flags (given t₂) t₂) λ s t₃.
+    then (bytes (10 ∷ cellsName) t₃) λ _ t₄.
+    then (flags (l * w) t₄) λ c t₅.
+    then (bytes (10 ∷ []) t₅) λ _ t₆. read (record { width = w; lines = l; structure = s; cells = c }) t₆
+
+-- the frame whose four lines begin the text
+unfoldable pub parse : List ℕ → Reading Frame
+parse t₁ =
+    then (bytes widthName t₁) λ _ t₂.
+    then (number t₂) λ w t₃.
+    then (bytes linesName t₃) λ _ t₄.
+    then (number t₄) λ l t₅. lastLines w l t₅

@@ -1,0 +1,380 @@
+// The program clumps as a function from bytes to bytes: `report` reads document 01's four lines, labels the frame and prints the answer.
+//
+// Promised (specs/Output.antt): whatever the input, the output is `clumpsOf` of it, as far as the slice reaches. A text of any other form
+// than specs/Input.antt's is refused by 11; no other refusal can come.
+ghost use mathlib.Core.Path.{_≡_};
+ghost use mathlib.Core.List.{[], _∷_, _++_, map};
+ghost use Prim.Native.Nat.{_-_, _*_, _≤_, min};
+ghost use lib.ListN.{length, getD, take, drop};
+ghost use Rattle.frame.specs.Kinds.{nz};
+ghost use Rattle.label.specs.Cases.{readAnswer};
+ghost use Rattle.frame.specs.Overlay.{overlay, Holds, Adds};
+ghost use Rattle.clumps_text.specs.Text.{line, decimal, decimals};
+ghost use Rattle.clumps_text.specs.Input.{read, bytes, value, number, given};
+ghost use Rattle.clumps_text.specs.Output.{structureBytes, refusal, answer, answerTo, clumpsOf};
+ghost use Rattle.clumps_text.specs.Steps.{readFrom, bitsRead, structureRead, SizesRead, FrameRead, endsAt, LabelReady, Labels, answerText};
+
+// ---- reading
+
+// A place of the text, or nowhere once the text is seen not to be of the form.
+enum Place {
+    At(usize),
+    Nowhere,
+}
+
+// A number that was read, and the place after its line.
+struct Number {
+    value: usize,
+    next: Place,
+}
+
+// The byte at a place; 0 past the end.
+fn byte_at(text: &[u8], at: usize) -> u8
+    ensures { λ r. ⌜ r ≡ getD (now (text .entry)) at 0 ⌝ }
+{
+    if at < text.len() {
+        return text[at];
+    }
+    0
+}
+
+// How many bytes stand from a place on.
+fn bytes_left(text: &[u8], at: usize) -> usize
+    ensures { λ r. ⌜ r ≡ length (now (text .entry)) - at ⌝ }
+{
+    if at < text.len() {
+        return text.len() - at;
+    }
+    0
+}
+
+// Bytes that must stand here.
+fn bytes_at(text: &[u8], place: Place, name: &[u8]) -> Place
+    ensures { λ r. ⌜ readFrom (now (text .entry)) r (read tt) ≡ readFrom (now (text .entry)) place (bytes (now (name .entry))) ⌝ }
+{
+    let Place::At(at) = place else {
+        return Place::Nowhere;
+    };
+    if bytes_left(text, at) < name.len() {
+        return Place::Nowhere;
+    }
+    let mut i: usize = 0;
+    while i < name.len() {
+        if text[at + i] != name[i] {
+            return Place::Nowhere;
+        }
+        i += 1;
+    }
+    Place::At(at + i)
+}
+
+// The value of a digit; 0 for a byte below them.
+fn digit(b: u8) -> usize
+    ensures { λ r. ⌜ r ≡ b - 48 ⌝ }
+{
+    if b < 48 {
+        return 0;
+    }
+    (b - 48) as usize
+}
+
+// The value of one digit, where byte 10 follows it, else of two.
+fn value_at(text: &[u8], at: usize) -> usize
+    ensures { λ r. ⌜ r ≡ value (drop at (now (text .entry))) ⌝ }
+{
+    if text.len() <= at {
+        return 0;
+    }
+    let a = digit(byte_at(text, at));
+    let b = byte_at(text, at + 1);
+    if b == 10 {
+        return a;
+    }
+    10 * a + digit(b)
+}
+
+// A number from 1 to 48 without leading zeros, and the byte 10 that ends its line.
+fn number_at(text: &[u8], place: Place) -> Number
+    ensures { λ r. ⌜ (r .value ≤ 48) × (readFrom (now (text .entry)) (r .next) (read (r .value)) ≡ readFrom (now (text .entry)) place number) ⌝ }
+{
+    let Place::At(at) = place else {
+        return Number {
+            value: 0,
+            next: Place::Nowhere,
+        };
+    };
+    let v = value_at(text, at);
+    if (v < 1) | (v > 48) {
+        return Number {
+            value: 0,
+            next: Place::Nowhere,
+        };
+    }
+    Number {
+        value: v,
+        next: decimal_at(text, place, v),
+    }
+}
+
+// A number's decimal, and the byte 10 that ends its line.
+fn decimal_at(text: &[u8], place: Place, v: usize) -> Place
+    requires { ⌜ v ≤ 48 ⌝ }
+    ensures { λ r. ⌜ readFrom (now (text .entry)) r (read tt) ≡ readFrom (now (text .entry)) place (bytes (decimal v ++ (10 ∷ []))) ⌝ }
+{
+    if v < 10 {
+        let one = [48 + v as u8, 10];
+        return bytes_at(text, place, &one);
+    }
+    let two = [48 + (v / 10) as u8, 48 + (v % 10) as u8, 10];
+    bytes_at(text, place, &two)
+}
+
+// `n` characters 0 or 1, into the first bytes of `out`.
+fn flags_at(text: &[u8], place: Place, n: usize, out: &mut [u8]) -> Place
+    requires { ⌜ n ≤ length (now out) ⌝ }
+    ensures { λ r. ⌜ (drop n (now (out .exit)) ≡ drop n (now (out .entry))) × (readFrom (now (text .entry)) r (read (take n (now (out .exit)))) ≡ readFrom (now (text .entry)) place (bitsRead n)) ⌝ }
+{
+    let Place::At(at) = place else {
+        return Place::Nowhere;
+    };
+    if bytes_left(text, at) < n {
+        return Place::Nowhere;
+    }
+    let mut i: usize = 0;
+    while i < n {
+        let b = text[at + i];
+        if (b != 48) & (b != 49) {
+            return Place::Nowhere;
+        }
+        out[i] = b - 48;
+        i += 1;
+    }
+    Place::At(at + i)
+}
+
+// Width and lines that were read, and the place after their lines; then the place after all four.
+struct Sizes {
+    width: usize,
+    lines: usize,
+    next: Place,
+}
+
+// The first two lines.
+fn sizes_at(text: &[u8]) -> Sizes
+    ensures { λ r. ⌜ SizesRead (now (text .entry)) r ⌝ }
+{
+    let w = number_at(text, bytes_at(text, Place::At(0), b"width="));
+    let first = w.next;
+    let l = number_at(text, bytes_at(text, first, b"lines="));
+    let next = l.next;
+    Sizes {
+        width: w.value,
+        lines: l.value,
+        next,
+    }
+}
+
+// How many flags the structure's line has: none where it ends at once.
+fn given_at(text: &[u8], at: usize) -> usize
+    ensures { λ r. ⌜ r ≡ given (drop at (now (text .entry))) ⌝ }
+{
+    if byte_at(text, at) == 10 {
+        return 0;
+    }
+    9
+}
+
+// The structure's flags, into a slice that holds the default.
+fn structure_at(text: &[u8], place: Place, structure: &mut [u8]) -> Place
+    requires { ⌜ now structure ≡ structureBytes [] ⌝ }
+    ensures { λ r. ⌜ readFrom (now (text .entry)) r (read (now (structure .exit))) ≡ readFrom (now (text .entry)) place structureRead ⌝ }
+{
+    let Place::At(at) = place else {
+        return Place::Nowhere;
+    };
+    let n = given_at(text, at);
+    flags_at(text, place, n, structure)
+}
+
+// All four lines.
+fn frame_at(text: &[u8], structure: &mut [u8], cells: &mut [u8]) -> Sizes
+    requires { ⌜ (now structure ≡ structureBytes []) × (length (now cells) ≡ 2304) ⌝ }
+    ensures { λ r. ⌜ FrameRead (now (text .entry)) (now (structure .exit)) (now (cells .exit)) r ⌝ }
+{
+    let z = sizes_at(text);
+    let next = z.next;
+    let a = bytes_at(text, next, b"structure=");
+    let b = structure_at(text, a, structure);
+    let c = bytes_at(text, b, b"\ncells=");
+    let d = flags_at(text, c, z.lines * z.width, cells);
+    let e = bytes_at(text, d, b"\n");
+    Sizes {
+        width: z.width,
+        lines: z.lines,
+        next: e,
+    }
+}
+
+// Whether the text ends at a place.
+fn at_end(text: &[u8], place: Place) -> bool
+    ensures { λ r. ⌜ r ≡ endsAt (now (text .entry)) place ⌝ }
+{
+    let Place::At(at) = place else {
+        return false;
+    };
+    at >= text.len()
+}
+
+// ---- printing
+
+// One byte, where there is room; the place after it.
+fn put(out: &mut [u8], at: usize, byte: u8) -> usize
+    ensures { λ r. ⌜ Adds (byte ∷ []) (now (out .entry)) at (now (out .exit)) r ⌝ }
+{
+    if at < out.len() {
+        out[at] = byte;
+        return at + 1;
+    }
+    at
+}
+
+fn put_bytes(out: &mut [u8], at: usize, bytes: &[u8]) -> usize
+    ensures { λ r. ⌜ Adds (now (bytes .entry)) (now (out .entry)) at (now (out .exit)) r ⌝ }
+{
+    let mut to = at;
+    let mut i: usize = 0;
+    while i < bytes.len() {
+        to = put(out, to, bytes[i]);
+        i += 1;
+    }
+    to
+}
+
+// A number's decimal: the digits before the last one first.
+fn put_decimal(out: &mut [u8], at: usize, n: usize) -> usize
+    ensures { λ r. ⌜ Adds (decimal n) (now (out .entry)) at (now (out .exit)) r ⌝ }
+{
+    if n < 10 {
+        return put(out, at, 48 + n as u8);
+    }
+    let to = put_decimal(out, at, n / 10);
+    put(out, to, 48 + (n % 10) as u8)
+}
+
+fn wide(n: u16) -> usize
+    ensures { λ r. ⌜ r ≡ n ⌝ }
+{
+    n as usize
+}
+
+// Numbers with one blank between.
+fn put_decimals(out: &mut [u8], at: usize, numbers: &[u16]) -> usize
+    ensures { λ r. ⌜ Adds (decimals (now (numbers .entry))) (now (out .entry)) at (now (out .exit)) r ⌝ }
+{
+    if numbers.len() == 0 {
+        return at;
+    }
+    let mut to = put_decimal(out, at, wide(numbers[0]));
+    let mut i: usize = 1;
+    while i < numbers.len() {
+        to = put(out, to, 32);
+        to = put_decimal(out, to, wide(numbers[i]));
+        i += 1;
+    }
+    to
+}
+
+// A line: a name and a number.
+fn put_line(out: &mut [u8], at: usize, name: &[u8], n: usize) -> usize
+    ensures { λ r. ⌜ Adds (line (now (name .entry)) (decimal n) []) (now (out .entry)) at (now (out .exit)) r ⌝ }
+{
+    let a = put_bytes(out, at, name);
+    let b = put_decimal(out, a, n);
+    put(out, b, 10)
+}
+
+fn put_answer(out: &mut [u8], runs: usize, joins: usize, n: usize, numbers: &[u16]) -> usize
+    ensures { λ r. ⌜ Holds (answer runs joins n (now (numbers .entry))) (now (out .entry)) (now (out .exit)) r ⌝ }
+{
+    let a = put_line(out, 0, b"runs=", runs);
+    let b = put_line(out, a, b"joins=", joins);
+    let c = put_line(out, b, b"objects=", n);
+    let d = put_bytes(out, c, b"labels=");
+    let e = put_decimals(out, d, numbers);
+    put(out, e, 10)
+}
+
+fn put_refusal(out: &mut [u8], cause: usize) -> usize
+    ensures { λ r. ⌜ Holds (refusal cause) (now (out .entry)) (now (out .exit)) r ⌝ }
+{
+    put_line(out, 0, b"refused=", cause)
+}
+
+// ---- labelling
+
+// Labels a frame in one call. 49 + 4 × 48 × 48 words are enough for each that a text can say, so it is accepted.
+fn label_into(
+    width: usize,
+    lines: usize,
+    structure: &[u8],
+    cells: &[u8],
+    numbers: &mut [u16],
+) -> label::ReadAnswer
+    requires { ⌜ LabelReady width lines (now structure) (now cells) (now numbers) (lines * width) ⌝ }
+    ensures { λ r. ⌜ Labels (lines ∷ width ∷ []) (now (structure .entry)) (map nz (now (cells .entry))) (readAnswer r) (now (numbers .exit)) ⌝ }
+{
+    let mut words = [0u32; 9265];
+    let shape = [lines, width];
+    whole::label_impl_u8_u16(&shape, structure, &mut words, cells, numbers, 1)
+}
+
+// Prints an answer: its figures and the numbers, or its refusal.
+fn put_labelled(out: &mut [u8], answer: label::ReadAnswer, numbers: &[u16]) -> usize
+    ensures { λ r. ⌜ Holds (answerText (readAnswer answer) (now (numbers .entry))) (now (out .entry)) (now (out .exit)) r ⌝ }
+{
+    match answer {
+        label::ReadAnswer::Accepted { n, runs, joins } => put_answer(out, runs, joins, n, numbers),
+        label::ReadAnswer::Refused(cause) => put_refusal(out, cause.number() as usize),
+    }
+}
+
+// Labels a frame and prints the answer. `numbers` is for its labels.
+fn label_frame(
+    width: usize,
+    lines: usize,
+    structure: &[u8],
+    cells: &[u8],
+    numbers: &mut [u16],
+    out: &mut [u8],
+) -> usize
+    requires { ⌜ LabelReady width lines (now structure) (now cells) (now numbers) 2304 ⌝ }
+    ensures { λ r. ⌜ Holds (answerTo (lines ∷ width ∷ []) (now (structure .entry)) (map nz (take (lines * width) (now (cells .entry))))) (now (out .entry)) (now (out .exit)) r ⌝ }
+{
+    let size = lines * width;
+    let answer = label_into(
+        width,
+        lines,
+        structure,
+        &cells[..size],
+        &mut numbers[..size],
+    );
+    put_labelled(out, answer, &numbers[..size])
+}
+
+// ---- the program
+
+// Reads the text, labels its frame and prints the answer into `out`, as far as it reaches; answers the count of bytes printed. No output
+// has more than 11,561 bytes, and no accepted text more than 2,349 (proofs/LengthLaws.antt).
+pub fn report(text: &[u8], out: &mut [u8]) -> usize
+    ensures { λ r. ⌜ (now (out .exit) ≡ overlay (clumpsOf (now (text .entry))) (now (out .entry))) × (r ≡ min (length (clumpsOf (now (text .entry)))) (length (now (out .entry)))) ⌝ }
+{
+    let mut structure = [0u8, 1, 0, 1, 1, 1, 0, 1, 0];
+    let mut cells = [0u8; 2304];
+    let mut numbers = [0u16; 2304];
+    let z = frame_at(text, &mut structure, &mut cells);
+    let end = z.next;
+    if at_end(text, end) {
+        return label_frame(z.width, z.lines, &structure, &cells, &mut numbers, out);
+    }
+    put_refusal(out, 11)
+}
