@@ -1,0 +1,35 @@
+-- `label_test::try_frames` is safe and ends.
+-- Assumes nothing.
+use borrow.Author.Needs.{needs}
+use Prim.Native.Nat.{_-_}
+use Rattle.label_test.proofs.try_frames.Statement.{statement}
+use Rattle.label_test.proofs.try_frames.Tie as tie
+
+abbrev Inv-loop : tie.InvT-loop
+Inv-loop state₀ i₀ state i = Unit {0}
+
+abbrev μ-loop : tie.MeasureT-loop
+μ-loop state₀ i₀ state i = 4000 - i
+
+loop-holds : tie.Need-loop-holds Inv-loop μ-loop
+loop-holds c = search needs
+
+try-frame-requires : tie.Need-try-frame-requires Inv-loop μ-loop
+try-frame-requires c κs = search needs
+
+add-i : tie.Need-add-i Inv-loop μ-loop
+add-i c = search needs
+
+loop-less : tie.Need-loop-less Inv-loop μ-loop
+loop-less c = search needs
+
+loop-again : tie.Need-loop-again Inv-loop μ-loop
+loop-again c = search needs
+
+returns : tie.Need-returns Inv-loop μ-loop
+returns c = search needs
+
+pub try-frames-spec : {M : Type 1} → statement M
+try-frames-spec =
+    tie.close
+    (tie.spec Inv-loop μ-loop loop-holds try-frame-requires add-i loop-less loop-again returns)
