@@ -16,7 +16,7 @@ use Rattle.label.specs.Feeding.{FeedPromise}
 use Rattle.label.specs.Reading.{ReadPromise, SizesPromise}
 use Rattle.calls.specs.Trace.{Trace, by-feed, by-read, by-sizes}
 use Rattle.caller.specs.declared.Four.{Four}
-use Rattle.caller.specs.CallList.{Lent, Entry, call, no-call, feedOf, held, readOf, sizesOf, entryOf, callsOf, noCall, answerNumbers, numbersOf, woven}
+use Rattle.caller.specs.CallList.{Lent, Entry, call, no-call, feedEntry, held, readEntry, sizesEntry, entryOf, callsOf, noCall, answerNumbers, numbersOf, woven}
 use Rattle.frame.specs.Overlay.{overlay, Adds}
 use Rattle.caller.specs.Rooms.{Rooms, leaves, roomsAfter}
 use Rattle.caller.specs.Making.{Standing, Steps, FeedOf, Feeds}
@@ -70,13 +70,13 @@ pub part-within : (from count places : ℕ) (t : Bool) → t ≡ leb (from + cou
 part-within from count places t e f = leb-true (from + count) places (sym e ∙ f)
 
 feed-is : {A : Type 0} (make : List A → Cells) (cells : List A) (k from count n : ℕ) → n ≡ count → from + count ≤ length cells
-    → feedOf make cells k from count ≡ call (feed k (make (take n (drop from cells))))
-unfolding feedOf
+    → feedEntry make cells k from count ≡ call (feed k (make (take n (drop from cells))))
+unfolding feedEntry
 feed-is make cells k from count n e h = rw (le-leb (from + count) (length cells) h, e) refl
 
 -- a feed of that kind, whose cells end at `end`, was made
 pub feed-made : {A : Type 0} (make : List A → Cells) (cells : List A) (k from count : ℕ) {end : ℕ} {entry : Entry} {s s′ : Session} {ws ws′ : List ℕ} {a : Answer}
-    → end ≡ from + count → end ≤ length cells → entry ≡ feedOf make cells k from count → FeedPromise s ws k (flags (make (take (end - from) (drop from cells)))) a s′ ws′ → Feeds entry s ws a s′ ws′
+    → end ≡ from + count → end ≤ length cells → entry ≡ feedEntry make cells k from count → FeedPromise s ws k (flags (make (take (end - from) (drop from cells)))) a s′ ws′ → Feeds entry s ws a s′ ws′
 feed-made make cells k from count {end} e h is P = record { lines = k; cells = make (take (end - from) (drop from cells)); is-feed = is ∙ feed-is make cells k from count (end - from) (omega arith) (omega arith); made = P }
 
 -- the cells end within those lent of the code's kind
@@ -86,7 +86,7 @@ feed-room {end = end} {n0 = n0} {n1 = n1} {n2 = n2} {n3 = n3} F key is = subst (
 -- codes 0 to 3 with a part beyond the cells lent
 pub feed-none : (l : Lent) (code a b c : ℕ) → code < 4 → leb (b + c) (getD (length (l .u8s) ∷ length (l .u16s) ∷ length (l .i16s) ∷ length (l .f32s) ∷ []) code 0) ≡ false
     → entryOf l code a b c ≡ no-call
-unfolding entryOf feedOf
+unfolding entryOf feedEntry
 feed-none l zero a b c h e = rw e refl
 feed-none l (suc zero) a b c h e = rw e refl
 feed-none l (suc (suc zero)) a b c h e = rw e refl
@@ -116,20 +116,20 @@ module _ (room : List ℕ) (places : ℕ) where
       subst (λ (k : ℕ). overlay out′ room ≡ out′ ++ drop k room) e (overlay-short out′ room (omega arith))
 
   module _ (value : ℕ) {b m : Standing} where
-    pub read-out : (kind : Number) → length room < places → Steps no-call b m → Steps (readOf kind (length room) places value) b m
-    unfolding readOf
+    pub read-out : (kind : Number) → length room < places → Steps no-call b m → Steps (readEntry kind (length room) places value) b m
+    unfolding readEntry
     read-out kind h S = rw (lt-leb places (length room) h) S
 
-    pub sizes-out : length room < places → Steps no-call b m → Steps (sizesOf (length room) places value) b m
-    unfolding sizesOf
+    pub sizes-out : length room < places → Steps no-call b m → Steps (sizesEntry (length room) places value) b m
+    unfolding sizesEntry
     sizes-out h S = rw (lt-leb places (length room) h) S
 
-    pub read-in : (kind : Number) → places ≤ length room → Steps (call (read kind (replicate (length (take places room)) (held kind value)))) b m → Steps (readOf kind (length room) places value) b m
-    unfolding readOf
+    pub read-in : (kind : Number) → places ≤ length room → Steps (call (read kind (replicate (length (take places room)) (held kind value)))) b m → Steps (readEntry kind (length room) places value) b m
+    unfolding readEntry
     read-in kind h S = rw (le-leb places (length room) h) (subst (λ (n : ℕ). Steps (call (read kind (replicate n (held kind value)))) b m) (length-take-le places room h) S)
 
-    pub sizes-in : places ≤ length room → Steps (call (sizes (replicate (length (take places room)) (held u32 value)))) b m → Steps (sizesOf (length room) places value) b m
-    unfolding sizesOf
+    pub sizes-in : places ≤ length room → Steps (call (sizes (replicate (length (take places room)) (held u32 value)))) b m → Steps (sizesEntry (length room) places value) b m
+    unfolding sizesEntry
     sizes-in h S = rw (le-leb places (length room) h) (subst (λ (n : ℕ). Steps (call (sizes (replicate n (held u32 value)))) b m) (length-take-le places room h) S)
 
 -- ---- the code

@@ -28,8 +28,8 @@ pub data Entry : Type 0 where
   no-call : Entry
 
 -- a feed of k lines, whose cells are the c entries from place b on. A part beyond the lent cells is no call
-unfoldable pub feedOf : {A : Type 0} → (List A → Cells) → List A → ℕ → ℕ → ℕ → Entry
-feedOf kind cells k b c = cond (leb (b + c) (length cells)) (call (feed k (kind (take c (drop b cells))))) no-call
+unfoldable pub feedEntry : {A : Type 0} → (List A → Cells) → List A → ℕ → ℕ → ℕ → Entry
+feedEntry kind cells k b c = cond (leb (b + c) (length cells)) (call (feed k (kind (take c (drop b cells))))) no-call
 
 -- what a place of that kind holds of the number b
 abbrev pub held : Number → ℕ → ℕ
@@ -38,23 +38,23 @@ held u16 b = b % 2 ^ 16
 held u32 b = b % 2 ^ 32
 
 -- an output of a places that hold b before, for a reading of that kind and for the size call. More places than the room has are no call
-unfoldable pub readOf : (kind : Number) → ℕ → ℕ → ℕ → Entry
-readOf kind room a b = cond (leb a room) (call (read kind (replicate a (held kind b)))) no-call
+unfoldable pub readEntry : (kind : Number) → ℕ → ℕ → ℕ → Entry
+readEntry kind room a b = cond (leb a room) (call (read kind (replicate a (held kind b)))) no-call
 
-unfoldable pub sizesOf : ℕ → ℕ → ℕ → Entry
-sizesOf room a b = cond (leb a room) (call (sizes (replicate a (held u32 b)))) no-call
+unfoldable pub sizesEntry : ℕ → ℕ → ℕ → Entry
+sizesEntry room a b = cond (leb a room) (call (sizes (replicate a (held u32 b)))) no-call
 
 -- (code, a, b, c): codes 0 to 3 feed, 4 to 6 read, 7 is the size call, and another code is no call
 unfoldable pub entryOf : Lent → ℕ → ℕ → ℕ → ℕ → Entry
 entryOf l code a b c =
-    getD (feedOf u8s (l .u8s) a b c
-    ∷ feedOf u16s (l .u16s) a b c
-    ∷ feedOf i16s (l .i16s) a b c
-    ∷ feedOf f32s (l .f32s) a b c
-    ∷ readOf u8 (l .room8) a b
-    ∷ readOf u16 (l .room16) a b
-    ∷ readOf u32 (l .room32) a b
-    ∷ sizesOf (l .room32) a b
+    getD (feedEntry u8s (l .u8s) a b c
+    ∷ feedEntry u16s (l .u16s) a b c
+    ∷ feedEntry i16s (l .i16s) a b c
+    ∷ feedEntry f32s (l .f32s) a b c
+    ∷ readEntry u8 (l .room8) a b
+    ∷ readEntry u16 (l .room16) a b
+    ∷ readEntry u32 (l .room32) a b
+    ∷ sizesEntry (l .room32) a b
     ∷ []) code no-call
 
 -- one to three numbers left over at the end are no call

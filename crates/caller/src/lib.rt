@@ -11,7 +11,7 @@ ghost use lib.ListN.{length, getD, replicate};
 ghost use Rattle.frame.specs.Kinds.{u8, u16, u32};
 ghost use Rattle.frame.specs.Plain.{read, sizes, numbers, counts};
 ghost use Rattle.label.specs.Cases.{openNumber, feedAnswer, readAnswer};
-ghost use Rattle.caller.specs.CallList.{call, no-call, readOf, sizesOf, entryOf, decode, answerNumbers};
+ghost use Rattle.caller.specs.CallList.{call, no-call, readEntry, sizesEntry, entryOf, decode, answerNumbers};
 ghost use Rattle.frame.specs.Overlay.{Adds};
 ghost use Rattle.caller.specs.Rooms.{Rooms, leaves, roomsOf, lentOf};
 ghost use Rattle.caller.specs.Making.{standing, fourAt, Performs, Steps, FeedOf, Feeds};
@@ -320,7 +320,7 @@ fn sizes(g: Going, words: &mut [u32], v: u32, out: &mut [u32], answers: &mut [u6
 
 // The same, in the first places of a room, where it has so many.
 fn read_call_u8(g: Going, words: &mut [u32], e: Four, room: &mut [u8], answers: &mut [u64]) -> Going
-    ensures { λ r. ⌜ ((room16 room32 : List ℕ) → Steps (readOf u8 (length (now (room .entry))) (e .a) (e .b)) (standing g (now (words .entry)) (roomsOf (now (room .entry)) room16 room32) (now (answers .entry))) (standing r (now (words .exit)) (roomsOf (now (room .exit)) room16 room32) (now (answers .exit)))) ⌝ }
+    ensures { λ r. ⌜ ((room16 room32 : List ℕ) → Steps (readEntry u8 (length (now (room .entry))) (e .a) (e .b)) (standing g (now (words .entry)) (roomsOf (now (room .entry)) room16 room32) (now (answers .entry))) (standing r (now (words .exit)) (roomsOf (now (room .exit)) room16 room32) (now (answers .exit)))) ⌝ }
 {
     let places = e.a;
     if places > room.len() {
@@ -336,7 +336,7 @@ fn read_call_u16(
     room: &mut [u16],
     answers: &mut [u64],
 ) -> Going
-    ensures { λ r. ⌜ ((room8 room32 : List ℕ) → Steps (readOf u16 (length (now (room .entry))) (e .a) (e .b)) (standing g (now (words .entry)) (roomsOf room8 (now (room .entry)) room32) (now (answers .entry))) (standing r (now (words .exit)) (roomsOf room8 (now (room .exit)) room32) (now (answers .exit)))) ⌝ }
+    ensures { λ r. ⌜ ((room8 room32 : List ℕ) → Steps (readEntry u16 (length (now (room .entry))) (e .a) (e .b)) (standing g (now (words .entry)) (roomsOf room8 (now (room .entry)) room32) (now (answers .entry))) (standing r (now (words .exit)) (roomsOf room8 (now (room .exit)) room32) (now (answers .exit)))) ⌝ }
 {
     let places = e.a;
     if places > room.len() {
@@ -352,7 +352,7 @@ fn read_call_u32(
     room: &mut [u32],
     answers: &mut [u64],
 ) -> Going
-    ensures { λ r. ⌜ ((room8 room16 : List ℕ) → Steps (readOf u32 (length (now (room .entry))) (e .a) (e .b)) (standing g (now (words .entry)) (roomsOf room8 room16 (now (room .entry))) (now (answers .entry))) (standing r (now (words .exit)) (roomsOf room8 room16 (now (room .exit))) (now (answers .exit)))) ⌝ }
+    ensures { λ r. ⌜ ((room8 room16 : List ℕ) → Steps (readEntry u32 (length (now (room .entry))) (e .a) (e .b)) (standing g (now (words .entry)) (roomsOf room8 room16 (now (room .entry))) (now (answers .entry))) (standing r (now (words .exit)) (roomsOf room8 room16 (now (room .exit))) (now (answers .exit)))) ⌝ }
 {
     let places = e.a;
     if places > room.len() {
@@ -368,7 +368,7 @@ fn read_call_u32(
 }
 
 fn sizes_call(g: Going, words: &mut [u32], e: Four, room: &mut [u32], answers: &mut [u64]) -> Going
-    ensures { λ r. ⌜ ((room8 room16 : List ℕ) → Steps (sizesOf (length (now (room .entry))) (e .a) (e .b)) (standing g (now (words .entry)) (roomsOf room8 room16 (now (room .entry))) (now (answers .entry))) (standing r (now (words .exit)) (roomsOf room8 room16 (now (room .exit))) (now (answers .exit)))) ⌝ }
+    ensures { λ r. ⌜ ((room8 room16 : List ℕ) → Steps (sizesEntry (length (now (room .entry))) (e .a) (e .b)) (standing g (now (words .entry)) (roomsOf room8 room16 (now (room .entry))) (now (answers .entry))) (standing r (now (words .exit)) (roomsOf room8 room16 (now (room .exit))) (now (answers .exit)))) ⌝ }
 {
     let places = e.a;
     if places > room.len() {

@@ -8,7 +8,7 @@ use Rattle.frame.specs.Shape.{size}
 use Rattle.frame.specs.ChainRule.{Labelled, groupCount, labels}
 use Rattle.frame.specs.Runs.{runs}
 use Rattle.frame.proofs.ChainRuleLaws.{labels-right, length-labels}
-use Rattle.clumps_text.specs.Input.{Frame, read, parse}
+use Rattle.clumps_text.specs.Input.{Frame, parsed, parse}
 use Rattle.clumps_text.specs.Output.{shapeOf, structureOf, answer, answerTo, printed, clumpsOf}
 
 -- an output, and the labelling of a frame that it prints
@@ -19,7 +19,7 @@ pub record Labelling (f : Frame) (out : List ℕ) : Type 0 where
   pub labelled : Labelled (shapeOf f) (structureOf f) (f .cells) n (λ p. getD ns p 0)
   pub prints : out ≡ answer (runs (shapeOf f) (structureOf f) (f .cells)) (runs (shapeOf f) (structureOf f) (f .cells) - n) n ns
 
-pub chain-rule : (text : List ℕ) (f : Frame) → parse text ≡ read f [] → Labelling f (clumpsOf text)
+pub chain-rule : (text : List ℕ) (f : Frame) → parse text ≡ parsed f [] → Labelling f (clumpsOf text)
 unfolding clumpsOf printed answerTo
 chain-rule text f e =
     record {

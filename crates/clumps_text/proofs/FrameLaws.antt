@@ -14,7 +14,7 @@ use lib.Seq.{take-all, getD-drop, drop-cons}
 use Rattle.clumps_text.specs.declared.Place.{Place}
 use Rattle.clumps_text.specs.declared.Place.the-variants.{At, Nowhere}
 use Rattle.clumps_text.specs.Text.{widthName, linesName, structureName, cellsName}
-use Rattle.clumps_text.specs.Input.{Frame, Reading, read, bad, then, bytes, number, flags, given, lastLines, parse}
+use Rattle.clumps_text.specs.Input.{Frame, Parsed, parsed, bad, then, bytes, number, flags, given, lastLines, parse}
 use Rattle.clumps_text.specs.Output.{bit, structureBytes}
 use Rattle.clumps_text.specs.Steps.{readFrom, bitsRead, structureRead, Bytes, frameBytes, bytesRead, isEmpty, endsAt}
 use Rattle.clumps_text.proofs.InputLaws.{flags-back, given-cases}
@@ -62,100 +62,100 @@ unfolding structureBytes
 nine-bytes [] e = absurd (omega arith)
 nine-bytes (f ∷ fs) e = refl
 
-nine-read : (t : List ℕ) → bitsRead 9 t ≡ then (flags 9 t) (λ fs s. read (structureBytes fs) s)
+nine-read : (t : List ℕ) → bitsRead 9 t ≡ then (flags 9 t) (λ fs s. parsed (structureBytes fs) s)
 unfolding bitsRead then
 nine-read t = go (flags 9 t) refl
   where
-    go : (r : Reading (List Bool)) → flags 9 t ≡ r → then r (λ fs s. read (map bit fs) s) ≡ then r (λ fs s. read (structureBytes fs) s)
-    go (read fs s) e = ap (λ (l : List ℕ). read l s) (nine-bytes fs (flags-back 9 t fs s e .many))
+    go : (r : Parsed (List Bool)) → flags 9 t ≡ r → then r (λ fs s. parsed (map bit fs) s) ≡ then r (λ fs s. parsed (structureBytes fs) s)
+    go (parsed fs s) e = ap (λ (l : List ℕ). parsed l s) (nine-bytes fs (flags-back 9 t fs s e .many))
     go bad e = refl
 
-none-bits : (t : List ℕ) → bitsRead 0 t ≡ read [] t
+none-bits : (t : List ℕ) → bitsRead 0 t ≡ parsed [] t
 unfolding bitsRead flags then
 none-bits t = refl
 
-none-read : (t : List ℕ) → read (structureBytes []) t ≡ then (flags 0 t) (λ fs s. read (structureBytes fs) s)
+none-read : (t : List ℕ) → parsed (structureBytes []) t ≡ then (flags 0 t) (λ fs s. parsed (structureBytes fs) s)
 unfolding flags then
 none-read t = refl
 
 -- another value for what was read
-read-as : {A B : Type 0} (text : List ℕ) (r : Place) (a c : A) (b : B) (t : List ℕ) → readFrom text r (read a) ≡ read c t → readFrom text r (read b) ≡ read b t
+read-as : {A B : Type 0} (text : List ℕ) (r : Place) (a c : A) (b : B) (t : List ℕ) → readFrom text r (parsed a) ≡ parsed c t → readFrom text r (parsed b) ≡ parsed b t
 unfolding then
-read-as text r a c b t e = sym (then-from text r a (λ _ s. read b s)) ∙ ap (λ x. then x (λ _ s. read b s)) e
+read-as text r a c b t e = sym (then-from text r a (λ _ s. parsed b s)) ∙ ap (λ x. then x (λ _ s. parsed b s)) e
 
 module _ (text : List ℕ) {p : Place} (r : Place) {at n : ℕ} {out : List ℕ} (out′ : List ℕ) (a : p ≡ At at) (g : n ≡ given (drop at text)) (o : out ≡ structureBytes []) (l : length out′ ≡ 9) where
-  pub structure-read : drop n out′ ≡ drop n out → readFrom text r (read (take n out′)) ≡ bitsRead n (drop at text) → readFrom text r (read out′) ≡ readFrom text p structureRead
+  pub structure-read : drop n out′ ≡ drop n out → readFrom text r (parsed (take n out′)) ≡ bitsRead n (drop at text) → readFrom text r (parsed out′) ≡ readFrom text p structureRead
   unfolding structureRead
   structure-read d e = from-at text structureRead a (go (given-cases (drop at text)))
     where
-      none : given (drop at text) ≡ 0 → readFrom text r (read out′) ≡ then (flags (given (drop at text)) (drop at text)) (λ fs s. read (structureBytes fs) s)
+      none : given (drop at text) ≡ 0 → readFrom text r (parsed out′) ≡ then (flags (given (drop at text)) (drop at text)) (λ fs s. parsed (structureBytes fs) s)
       none z =
           let m : n ≡ 0 = g ∙ z in
           let x : out′ ≡ structureBytes [] = subst (λ (k : ℕ). drop k out′ ≡ drop k out) m d ∙ o in
-          let y : readFrom text r (read (take 0 out′)) ≡ bitsRead 0 (drop at text) = subst (λ (k : ℕ). readFrom text r (read (take k out′)) ≡ bitsRead k (drop at text)) m e in
-          let v : readFrom text r (read out′) ≡ read out′ (drop at text) = read-as text r (take 0 out′) [] out′ (drop at text) (y ∙ none-bits (drop at text)) in
-          v ∙ (ap (λ (q : List ℕ). read q (drop at text)) x ∙ (none-read (drop at text) ∙ ap (λ (k : ℕ). then (flags k (drop at text)) (λ fs s. read (structureBytes fs) s)) (sym z)))
+          let y : readFrom text r (parsed (take 0 out′)) ≡ bitsRead 0 (drop at text) = subst (λ (k : ℕ). readFrom text r (parsed (take k out′)) ≡ bitsRead k (drop at text)) m e in
+          let v : readFrom text r (parsed out′) ≡ parsed out′ (drop at text) = read-as text r (take 0 out′) [] out′ (drop at text) (y ∙ none-bits (drop at text)) in
+          v ∙ (ap (λ (q : List ℕ). parsed q (drop at text)) x ∙ (none-read (drop at text) ∙ ap (λ (k : ℕ). then (flags k (drop at text)) (λ fs s. parsed (structureBytes fs) s)) (sym z)))
 
-      nine : given (drop at text) ≡ 9 → readFrom text r (read out′) ≡ then (flags (given (drop at text)) (drop at text)) (λ fs s. read (structureBytes fs) s)
+      nine : given (drop at text) ≡ 9 → readFrom text r (parsed out′) ≡ then (flags (given (drop at text)) (drop at text)) (λ fs s. parsed (structureBytes fs) s)
       nine z =
           let m : n ≡ 9 = g ∙ z in
           let w : take n out′ ≡ out′ = take-all n out′ (omega arith) in
-          ap (λ (x : List ℕ). readFrom text r (read x)) (sym w) ∙ (e ∙ (ap (λ (k : ℕ). bitsRead k (drop at text)) m ∙ (nine-read (drop at text) ∙ ap (λ (k : ℕ). then (flags k (drop at text)) (λ fs s. read (structureBytes fs) s)) (sym z))))
+          ap (λ (x : List ℕ). readFrom text r (parsed x)) (sym w) ∙ (e ∙ (ap (λ (k : ℕ). bitsRead k (drop at text)) m ∙ (nine-read (drop at text) ∙ ap (λ (k : ℕ). then (flags k (drop at text)) (λ fs s. parsed (structureBytes fs) s)) (sym z))))
 
-      go : (given (drop at text) ≡ 0) ⊎ (given (drop at text) ≡ 9) → readFrom text r (read out′) ≡ then (flags (given (drop at text)) (drop at text)) (λ fs s. read (structureBytes fs) s)
+      go : (given (drop at text) ≡ 0) ⊎ (given (drop at text) ≡ 9) → readFrom text r (parsed out′) ≡ then (flags (given (drop at text)) (drop at text)) (λ fs s. parsed (structureBytes fs) s)
       go (inl z) = none z
       go (inr z) = nine z
 
 -- ---- the first two lines
 
 module _ (text : List ℕ) (a b c d : Place) (w l : ℕ) where
-  pub sizes-read : readFrom text a (read tt) ≡ readFrom text (At 0) (bytes widthName) → readFrom text b (read w) ≡ readFrom text a number → readFrom text c (read tt) ≡ readFrom text b (bytes linesName) → readFrom text d (read l) ≡ readFrom text c number → readFrom text d (lastLines w l) ≡ parse text
+  pub sizes-read : readFrom text a (parsed tt) ≡ readFrom text (At 0) (bytes widthName) → readFrom text b (parsed w) ≡ readFrom text a number → readFrom text c (parsed tt) ≡ readFrom text b (bytes linesName) → readFrom text d (parsed l) ≡ readFrom text c number → readFrom text d (lastLines w l) ≡ parse text
   unfolding parse
   sizes-read e₁ e₂ e₃ e₄ =
-      let k₄ : ℕ → ℕ → List ℕ → Reading Frame = λ w l t. lastLines w l t in
-      let k₃ : ℕ → Unit {0} → List ℕ → Reading Frame = λ w _ t. then (number t) (k₄ w) in
-      let k₂ : ℕ → List ℕ → Reading Frame = λ w t. then (bytes linesName t) (k₃ w) in
-      let k₁ : Unit {0} → List ℕ → Reading Frame = λ _ t. then (number t) k₂ in
+      let k₄ : ℕ → ℕ → List ℕ → Parsed Frame = λ w l t. lastLines w l t in
+      let k₃ : ℕ → Unit {0} → List ℕ → Parsed Frame = λ w _ t. then (number t) (k₄ w) in
+      let k₂ : ℕ → List ℕ → Parsed Frame = λ w t. then (bytes linesName t) (k₃ w) in
+      let k₁ : Unit {0} → List ℕ → Parsed Frame = λ _ t. then (number t) k₂ in
       sym (next text (At 0) a tt (bytes widthName) k₁ e₁ ∙ (next text a b w number k₂ e₂ ∙ (next text b c tt (bytes linesName) (k₃ w) e₃ ∙ next text c d l number (k₄ w) e₄)))
 
 -- ---- the last two lines, with structure and cells as bytes
 
 module _ {A B C : Type 0} where
-  then-assoc : (r : Reading A) (f : A → List ℕ → Reading B) (k : B → List ℕ → Reading C) → then (then r f) k ≡ then r (λ a t. then (f a t) k)
+  then-assoc : (r : Parsed A) (f : A → List ℕ → Parsed B) (k : B → List ℕ → Parsed C) → then (then r f) k ≡ then r (λ a t. then (f a t) k)
   unfolding then
-  then-assoc (read a t) f k = refl
+  then-assoc (parsed a t) f k = refl
   then-assoc bad f k = refl
 
   -- f gives another value for what r read; then k goes on with it
-  then-as : (r : Reading A) (f : A → B) (h : A → List ℕ → Reading C) (k : B → List ℕ → Reading C) → ((a : A) (t : List ℕ) → h a t ≡ k (f a) t) → then r h ≡ then (then r (λ a t. read (f a) t)) k
+  then-as : (r : Parsed A) (f : A → B) (h : A → List ℕ → Parsed C) (k : B → List ℕ → Parsed C) → ((a : A) (t : List ℕ) → h a t ≡ k (f a) t) → then r h ≡ then (then r (λ a t. parsed (f a) t)) k
   unfolding then
-  then-as (read a t) f h k e = e a t
+  then-as (parsed a t) f h k e = e a t
   then-as bad f h k e = refl
 
-then-cong : {A C : Type 0} (r : Reading A) (h k : A → List ℕ → Reading C) → ((a : A) (t : List ℕ) → h a t ≡ k a t) → then r h ≡ then r k
+then-cong : {A C : Type 0} (r : Parsed A) (h k : A → List ℕ → Parsed C) → ((a : A) (t : List ℕ) → h a t ≡ k a t) → then r h ≡ then r k
 unfolding then
-then-cong (read a t) h k e = e a t
+then-cong (parsed a t) h k e = e a t
 then-cong bad h k e = refl
 
-from-cong : {A : Type 0} (text : List ℕ) (p : Place) (f g : List ℕ → Reading A) → ((t : List ℕ) → f t ≡ g t) → readFrom text p f ≡ readFrom text p g
+from-cong : {A : Type 0} (text : List ℕ) (p : Place) (f g : List ℕ → Parsed A) → ((t : List ℕ) → f t ≡ g t) → readFrom text p f ≡ readFrom text p g
 from-cong text (At at) f g e = e (drop at text)
 from-cong text Nowhere f g e = refl
 
 module _ (w l : ℕ) where
   -- the lines as read by the code
-  k₅ : List ℕ → List ℕ → Unit {0} → List ℕ → Reading Bytes
-  k₅ s c _ t = read (record { width = w; lines = l; structure = s; cells = c }) t
+  k₅ : List ℕ → List ℕ → Unit {0} → List ℕ → Parsed Bytes
+  k₅ s c _ t = parsed (record { width = w; lines = l; structure = s; cells = c }) t
 
-  k₄ : List ℕ → List ℕ → List ℕ → Reading Bytes
+  k₄ : List ℕ → List ℕ → List ℕ → Parsed Bytes
   k₄ s c t = then (bytes (10 ∷ []) t) (k₅ s c)
 
-  k₃ : List ℕ → Unit {0} → List ℕ → Reading Bytes
+  k₃ : List ℕ → Unit {0} → List ℕ → Parsed Bytes
   k₃ s _ t = then (bitsRead (l * w) t) (k₄ s)
 
-  k₂ : List ℕ → List ℕ → Reading Bytes
+  k₂ : List ℕ → List ℕ → Parsed Bytes
   k₂ s t = then (bytes (10 ∷ cellsName) t) (k₃ s)
 
-  k₁ : Unit {0} → List ℕ → Reading Bytes
+  k₁ : Unit {0} → List ℕ → Parsed Bytes
   k₁ _ t = then (structureRead t) k₂
 
   last-bytes : (t : List ℕ) → bytesRead (lastLines w l t) ≡ then (bytes structureName t) k₁
@@ -177,17 +177,17 @@ module _ (w l : ℕ) where
 module _ (text : List ℕ) (z a b c d e : Place) (w l : ℕ) (s cells : List ℕ) where
   pub frame-read :
       readFrom text z (lastLines w l) ≡ parse text
-      → readFrom text a (read tt) ≡ readFrom text z (bytes structureName)
-      → readFrom text b (read s) ≡ readFrom text a structureRead
-      → readFrom text c (read tt) ≡ readFrom text b (bytes (10 ∷ cellsName))
-      → readFrom text d (read cells) ≡ readFrom text c (bitsRead (l * w))
-      → readFrom text e (read tt) ≡ readFrom text d (bytes (10 ∷ []))
-      → readFrom text e (read (record { width = w; lines = l; structure = s; cells = cells })) ≡ bytesRead (parse text)
+      → readFrom text a (parsed tt) ≡ readFrom text z (bytes structureName)
+      → readFrom text b (parsed s) ≡ readFrom text a structureRead
+      → readFrom text c (parsed tt) ≡ readFrom text b (bytes (10 ∷ cellsName))
+      → readFrom text d (parsed cells) ≡ readFrom text c (bitsRead (l * w))
+      → readFrom text e (parsed tt) ≡ readFrom text d (bytes (10 ∷ []))
+      → readFrom text e (parsed (record { width = w; lines = l; structure = s; cells = cells })) ≡ bytesRead (parse text)
   unfolding bytesRead k₁ k₂ k₃ k₄ k₅
   frame-read h e₁ e₂ e₃ e₄ e₅ =
       sym
       (ap bytesRead (sym h)
-      ∙ (sym (from-then text z (lastLines w l) (λ f t. read (frameBytes f) t))
+      ∙ (sym (from-then text z (lastLines w l) (λ f t. parsed (frameBytes f) t))
       ∙ (from-cong text z (λ t. bytesRead (lastLines w l t)) (λ t. then (bytes structureName t) (k₁ w l)) (last-bytes w l)
       ∙ (next text z a tt (bytes structureName) (k₁ w l) e₁
       ∙ (next text a b s structureRead (k₂ w l) e₂

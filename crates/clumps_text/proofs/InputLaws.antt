@@ -11,44 +11,44 @@ use borrow.Author.Tests.{eqb-true, eq-eqb, ne-eqb, leb-true, le-leb, ltb-true, l
 use lib.Dec.{eqb, leb, ltb}
 use lib.ListN.{length, getD}
 use Rattle.clumps_text.specs.Text.{line, decimal, flagByte, widthName, linesName, structureName, cellsName}
-use Rattle.clumps_text.specs.Input.{Frame, Accepted, textBefore, textOf, Reading, read, bad, then, bytes, value, number, flags, given, lastLines, parse}
+use Rattle.clumps_text.specs.Input.{Frame, Accepted, textBefore, textOf, Parsed, parsed, bad, then, bytes, value, number, flags, given, lastLines, parse}
 use Rattle.clumps_text.proofs.DecimalLaws.{decimal-small, decimal-two}
 
 -- ---- one thing after another
 
 module _ {A B : Type 0} where
   -- what was read first, where something was read at the end
-  pub record Through (r : Reading A) (k : A → List ℕ → Reading B) (b : B) (t : List ℕ) : Type 0 where
+  pub record Through (r : Parsed A) (k : A → List ℕ → Parsed B) (b : B) (t : List ℕ) : Type 0 where
     pub first : A
     pub after : List ℕ
-    pub reads : r ≡ read first after
-    pub goes-on : k first after ≡ read b t
+    pub reads : r ≡ parsed first after
+    pub goes-on : k first after ≡ parsed b t
 
-  pub through : (r : Reading A) (k : A → List ℕ → Reading B) {b : B} {t : List ℕ} → then r k ≡ read b t → Through r k b t
+  pub through : (r : Parsed A) (k : A → List ℕ → Parsed B) {b : B} {t : List ℕ} → then r k ≡ parsed b t → Through r k b t
   unfolding then
-  through (read a s) k e = record { first = a; after = s; reads = refl; goes-on = e }
+  through (parsed a s) k e = record { first = a; after = s; reads = refl; goes-on = e }
   through bad k e = absurd (let z : _≡_ {A = ℕ} 0 1 = cc in omega arith)
 
-pub same-read : {A : Type 0} {a b : A} {s t : List ℕ} → read a s ≡ read b t → a ≡ b
+pub same-read : {A : Type 0} {a b : A} {s t : List ℕ} → parsed a s ≡ parsed b t → a ≡ b
 same-read e = cc
 
-pub same-rest : {A : Type 0} {a b : A} {s t : List ℕ} → read a s ≡ read b t → s ≡ t
+pub same-rest : {A : Type 0} {a b : A} {s t : List ℕ} → parsed a s ≡ parsed b t → s ≡ t
 same-rest e = cc
 
 -- ---- bytes
 
-pub bytes-of : (xs t : List ℕ) → bytes xs (xs ++ t) ≡ read tt t
+pub bytes-of : (xs t : List ℕ) → bytes xs (xs ++ t) ≡ parsed tt t
 unfolding bytes
 bytes-of [] t = refl
 bytes-of (x ∷ xs) t = rw (eq-eqb x x refl) (bytes-of xs t)
 
-pub bytes-back : (xs t : List ℕ) {u : Unit {0}} {r : List ℕ} → bytes xs t ≡ read u r → t ≡ xs ++ r
+pub bytes-back : (xs t : List ℕ) {u : Unit {0}} {r : List ℕ} → bytes xs t ≡ parsed u r → t ≡ xs ++ r
 unfolding bytes
 bytes-back [] t e = cc
 bytes-back (x ∷ xs) [] e = absurd (let z : _≡_ {A = ℕ} 0 1 = cc in omega arith)
 bytes-back (x ∷ xs) (y ∷ t) {u} {r} e = go (eqb x y) refl e (bytes-back xs t)
   where
-    go : (b : Bool) → eqb x y ≡ b → cond b (bytes xs t) bad ≡ read u r → (bytes xs t ≡ read u r → t ≡ xs ++ r) → y ∷ t ≡ x ∷ (xs ++ r)
+    go : (b : Bool) → eqb x y ≡ b → cond b (bytes xs t) bad ≡ parsed u r → (bytes xs t ≡ parsed u r → t ≡ xs ++ r) → y ∷ t ≡ x ∷ (xs ++ r)
     go true h e ih =
         let a = eqb-true x y h in
         let l = ih e in
@@ -70,10 +70,10 @@ value-of v t h = go (ltb v 10) refl
         let n : eqb (48 + v % 10) 10 ≡ false = ne-eqb (48 + v % 10) 10 (λ q. omega arith) in
         rw (decimal-two v l (omega arith), n) (omega arith)
 
-pub number-of : (v : ℕ) (t : List ℕ) → 1 ≤ v → v ≤ 48 → number (decimal v ++ (10 ∷ t)) ≡ read v t
+pub number-of : (v : ℕ) (t : List ℕ) → 1 ≤ v → v ≤ 48 → number (decimal v ++ (10 ∷ t)) ≡ parsed v t
 unfolding number then
 number-of v t h l =
-    let b : bytes (decimal v ++ (10 ∷ [])) (decimal v ++ (10 ∷ t)) ≡ read tt t = subst (λ (s : List ℕ). bytes (decimal v ++ (10 ∷ [])) s ≡ read tt t) (append-assoc (decimal v) (10 ∷ []) t) (bytes-of (decimal v ++ (10 ∷ [])) t) in
+    let b : bytes (decimal v ++ (10 ∷ [])) (decimal v ++ (10 ∷ t)) ≡ parsed tt t = subst (λ (s : List ℕ). bytes (decimal v ++ (10 ∷ [])) s ≡ parsed tt t) (append-assoc (decimal v) (10 ∷ []) t) (bytes-of (decimal v ++ (10 ∷ [])) t) in
     rw (value-of v t l, le-leb 1 v h, le-leb v 48 l, b)
 
 pub record IsNumber (v : ℕ) (t r : List ℕ) : Type 0 where
@@ -81,11 +81,11 @@ pub record IsNumber (v : ℕ) (t r : List ℕ) : Type 0 where
   pub most : v ≤ 48
   pub text : t ≡ decimal v ++ (10 ∷ r)
 
-pub number-back : (t : List ℕ) {v : ℕ} {r : List ℕ} → number t ≡ read v r → IsNumber v t r
+pub number-back : (t : List ℕ) {v : ℕ} {r : List ℕ} → number t ≡ parsed v r → IsNumber v t r
 unfolding number
 number-back t {v} {r} e = go (leb 1 (value t)) (leb (value t) 48) refl refl e
   where
-    go : (a b : Bool) → leb 1 (value t) ≡ a → leb (value t) 48 ≡ b → cond (a && b) (then (bytes (decimal (value t) ++ (10 ∷ [])) t) λ _ r. read (value t) r) bad ≡ read v r → IsNumber v t r
+    go : (a b : Bool) → leb 1 (value t) ≡ a → leb (value t) 48 ≡ b → cond (a && b) (then (bytes (decimal (value t) ++ (10 ∷ [])) t) λ _ r. parsed (value t) r) bad ≡ parsed v r → IsNumber v t r
     go true true p q e =
         let h = through _ _ e in
         let w : value t ≡ v = same-read (h .goes-on) in
@@ -101,7 +101,7 @@ number-back t {v} {r} e = go (leb 1 (value t)) (leb (value t) 48) refl refl e
 
 -- ---- flags
 
-pub flags-of : (fs : List Bool) (t : List ℕ) → flags (length fs) (map flagByte fs ++ t) ≡ read fs t
+pub flags-of : (fs : List Bool) (t : List ℕ) → flags (length fs) (map flagByte fs ++ t) ≡ parsed fs t
 unfolding flags flagByte then
 flags-of [] t = refl
 flags-of (true ∷ fs) t = rw (flags-of fs t)
@@ -119,7 +119,7 @@ flag-byte b true false h k o = eqb-true b 48 h
 flag-byte b false true h k o = eqb-true b 49 k
 flag-byte b false false h k o = absurd (let z : _≡_ {A = ℕ} 0 1 = cc in omega arith)
 
-pub flags-back : (n : ℕ) (t : List ℕ) (fs : List Bool) (r : List ℕ) → flags n t ≡ read fs r → AreFlags n fs t r
+pub flags-back : (n : ℕ) (t : List ℕ) (fs : List Bool) (r : List ℕ) → flags n t ≡ parsed fs r → AreFlags n fs t r
 unfolding flags
 flags-back zero t fs r e =
     let f : [] ≡ fs = cc in
@@ -128,7 +128,7 @@ flags-back zero t fs r e =
 flags-back (suc n) [] fs r e = absurd (let z : _≡_ {A = ℕ} 0 1 = cc in omega arith)
 flags-back (suc n) (b ∷ t) fs r e = go (eqb b 48) (eqb b 49) refl refl e (flags-back n t)
   where
-    more : (q : Bool) → b ≡ flagByte q → then (flags n t) (λ gs s. read (q ∷ gs) s) ≡ read fs r → ((gs : List Bool) (s : List ℕ) → flags n t ≡ read gs s → AreFlags n gs t s) → AreFlags (suc n) fs (b ∷ t) r
+    more : (q : Bool) → b ≡ flagByte q → then (flags n t) (λ gs s. parsed (q ∷ gs) s) ≡ parsed fs r → ((gs : List Bool) (s : List ℕ) → flags n t ≡ parsed gs s → AreFlags n gs t s) → AreFlags (suc n) fs (b ∷ t) r
     more q f e ih =
         let h = through _ _ e in
         let a = ih (h .first) (h .after) (h .reads) in
@@ -137,7 +137,7 @@ flags-back (suc n) (b ∷ t) fs r e = go (eqb b 48) (eqb b 49) refl refl e (flag
         let x : t ≡ map flagByte (h .first) ++ r = subst (λ (l : List ℕ). t ≡ map flagByte (h .first) ++ l) s (a .text) in
         subst (λ (gs : List Bool). AreFlags (suc n) gs (b ∷ t) r) g (record { many = ap suc (a .many); text = cc })
 
-    go : (p q : Bool) → eqb b 48 ≡ p → eqb b 49 ≡ q → cond (p || q) (then (flags n t) (λ gs s. read (q ∷ gs) s)) bad ≡ read fs r → ((gs : List Bool) (s : List ℕ) → flags n t ≡ read gs s → AreFlags n gs t s) → AreFlags (suc n) fs (b ∷ t) r
+    go : (p q : Bool) → eqb b 48 ≡ p → eqb b 49 ≡ q → cond (p || q) (then (flags n t) (λ gs s. parsed (q ∷ gs) s)) bad ≡ parsed fs r → ((gs : List Bool) (s : List ℕ) → flags n t ≡ parsed gs s → AreFlags n gs t s) → AreFlags (suc n) fs (b ∷ t) r
     go true q h k e ih = more q (flag-byte b true q h k refl) e ih
     go false true h k e ih = more true (flag-byte b false true h k refl) e ih
     go false false h k e ih = absurd (let z : _≡_ {A = ℕ} 0 1 = cc in omega arith)
@@ -168,7 +168,7 @@ given-cases t = go (eqb (getD t 0 0) 10)
 
 -- ---- the four lines
 
-pub parse-before : (f : Frame) (rest : List ℕ) → Accepted f → parse (textBefore f rest) ≡ read f rest
+pub parse-before : (f : Frame) (rest : List ℕ) → Accepted f → parse (textBefore f rest) ≡ parsed f rest
 unfolding parse lastLines textBefore then
 parse-before f rest a =
     let w = f .width in
@@ -179,11 +179,11 @@ parse-before f rest a =
     let t₆ : List ℕ = line [] s (cellsName ++ (c ++ t₈)) in
     let t₄ : List ℕ = structureName ++ t₆ in
     let t₂ : List ℕ = line linesName (decimal l) t₄ in
-    let e₅ : flags (given t₆) t₆ ≡ read (f .structure) (10 ∷ (cellsName ++ (c ++ t₈))) = rw (given-of (f .structure) (cellsName ++ (c ++ t₈)) (a .nine-or-none)) (flags-of (f .structure) (10 ∷ (cellsName ++ (c ++ t₈)))) in
-    let e₇ : flags (l * w) (c ++ t₈) ≡ read (f .cells) t₈ = subst (λ (n : ℕ). flags n (c ++ t₈) ≡ read (f .cells) t₈) (a .all-cells) (flags-of (f .cells) t₈) in
+    let e₅ : flags (given t₆) t₆ ≡ parsed (f .structure) (10 ∷ (cellsName ++ (c ++ t₈))) = rw (given-of (f .structure) (cellsName ++ (c ++ t₈)) (a .nine-or-none)) (flags-of (f .structure) (10 ∷ (cellsName ++ (c ++ t₈)))) in
+    let e₇ : flags (l * w) (c ++ t₈) ≡ parsed (f .cells) t₈ = subst (λ (n : ℕ). flags n (c ++ t₈) ≡ parsed (f .cells) t₈) (a .all-cells) (flags-of (f .cells) t₈) in
     rw (bytes-of widthName (decimal w ++ (10 ∷ t₂)), number-of w t₂ (a .some-width) (a .most-width), bytes-of linesName (decimal l ++ (10 ∷ t₄)), number-of l t₄ (a .some-lines) (a .most-lines), bytes-of structureName t₆, e₅, bytes-of (10 ∷ cellsName) (c ++ t₈), e₇, bytes-of (10 ∷ []) rest)
 
-pub parse-text : (f : Frame) → Accepted f → parse (textOf f) ≡ read f []
+pub parse-text : (f : Frame) → Accepted f → parse (textOf f) ≡ parsed f []
 unfolding textOf
 parse-text f a = parse-before f [] a
 
@@ -191,7 +191,7 @@ pub record IsText (f : Frame) (t rest : List ℕ) : Type 0 where
   pub accepted : Accepted f
   pub text : t ≡ textBefore f rest
 
-pub parse-back : (text : List ℕ) (f : Frame) (rest : List ℕ) → parse text ≡ read f rest → IsText f text rest
+pub parse-back : (text : List ℕ) (f : Frame) (rest : List ℕ) → parse text ≡ parsed f rest → IsText f text rest
 unfolding parse lastLines textBefore
 parse-back text f rest e =
     let h₁ = through _ _ e in

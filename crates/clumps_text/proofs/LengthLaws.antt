@@ -17,7 +17,7 @@ use Rattle.frame.specs.ChainRule.{nonzero, groupCount, labels}
 use Rattle.frame.specs.Runs.{beginsRun, runs}
 use Rattle.frame.proofs.ChainRuleLaws.{labels-right, length-labels}
 use Rattle.clumps_text.specs.Text.{decimal, blankBefore, decimals, flagByte, widthName, linesName, structureName, cellsName, runsName, joinsName, objectsName, labelsName, refusedName}
-use Rattle.clumps_text.specs.Input.{Frame, Accepted, textBefore, Reading, read, bad, parse}
+use Rattle.clumps_text.specs.Input.{Frame, Accepted, textBefore, Parsed, parsed, bad, parse}
 use Rattle.clumps_text.specs.Output.{shapeOf, structureOf, refusal, answer, answerTo, answerOf, printed, clumpsOf}
 use Rattle.clumps_text.proofs.DecimalLaws.{decimal-small, decimal-more}
 use Rattle.clumps_text.proofs.InputLaws.{parse-back}
@@ -117,9 +117,9 @@ pub output-most : (text : List ℕ) → length (clumpsOf text) ≤ 11561
 unfolding clumpsOf printed
 output-most text = go (parse text) refl
   where
-    go : (x : Reading Frame) → parse text ≡ x → length (printed x) ≤ 11561
-    go (read f []) e = accepted-most f (parse-back text f [] e .accepted)
-    go (read f (b ∷ rest)) e = refusal-most
+    go : (x : Parsed Frame) → parse text ≡ x → length (printed x) ≤ 11561
+    go (parsed f []) e = accepted-most f (parse-back text f [] e .accepted)
+    go (parsed f (b ∷ rest)) e = refusal-most
     go bad e = refusal-most
 
 -- ---- inputs
@@ -141,9 +141,9 @@ pub long-refused : (text : List ℕ) → 2349 < length text → clumpsOf text �
 unfolding clumpsOf printed
 long-refused text h = go (parse text) refl
   where
-    go : (x : Reading Frame) → parse text ≡ x → printed x ≡ refusal 11
-    go (read f []) e =
+    go : (x : Parsed Frame) → parse text ≡ x → printed x ≡ refusal 11
+    go (parsed f []) e =
         let t = parse-back text f [] e in
         absurd (omega (arith, ap length (t .text), text-most f (t .accepted)))
-    go (read f (b ∷ rest)) e = refl
+    go (parsed f (b ∷ rest)) e = refl
     go bad e = refl

@@ -14,7 +14,7 @@ use lib.Seq.{drop-cons, drop-length, getD-drop, take-suc-set}
 use Rattle.clumps_text.specs.declared.Place.{Place}
 use Rattle.clumps_text.specs.declared.Place.the-variants.{At, Nowhere}
 use Rattle.clumps_text.specs.Text.{decimal}
-use Rattle.clumps_text.specs.Input.{Reading, read, bad, then, bytes, value, number, flags}
+use Rattle.clumps_text.specs.Input.{Parsed, parsed, bad, then, bytes, value, number, flags}
 use Rattle.clumps_text.specs.Output.{bit}
 use Rattle.clumps_text.specs.Steps.{readFrom}
 
@@ -45,7 +45,7 @@ module _ (name text : List ℕ) (at i : ℕ) (h : i < length name) (l : at + i <
   pub bytes-differ : (getD text (at + i) 0 ≡ getD name i 0 → ⊥) → bytes (drop i name) (drop (at + i) text) ≡ bad
   bytes-differ e = bytes-one ∙ ap (λ (b : Bool). cond b (bytes (drop (i + 1) name) (drop (at + (i + 1)) text)) bad) (ne-eqb _ _ (λ q. e (sym q)))
 
-pub bytes-all : (name text : List ℕ) (at i : ℕ) → length name ≤ i → i ≤ length name → bytes (drop i name) (drop (at + i) text) ≡ read tt (drop (at + i) text)
+pub bytes-all : (name text : List ℕ) (at i : ℕ) → length name ≤ i → i ≤ length name → bytes (drop i name) (drop (at + i) text) ≡ parsed tt (drop (at + i) text)
 unfolding bytes
 bytes-all name text at i h l =
     let e : i ≡ length name = omega arith in
@@ -60,21 +60,21 @@ flags-short zero t h = absurd (omega arith)
 flags-short (suc n) [] h = refl
 flags-short (suc n) (b ∷ t) h = go (eqb b 48 || eqb b 49) (flags-short n t (omega arith))
   where
-    go : (c : Bool) → flags n t ≡ bad → cond c (then (flags n t) λ fs r. read (eqb b 49 ∷ fs) r) bad ≡ bad
+    go : (c : Bool) → flags n t ≡ bad → cond c (then (flags n t) λ fs r. parsed (eqb b 49 ∷ fs) r) bad ≡ bad
     go true e = rw e
     go false e = refl
 
 -- what flags read as bytes, after some that were read before
-abbrev pub bits : List ℕ → Reading (List Bool) → Reading (List ℕ)
-bits pre r = then r (λ fs s. read (pre ++ map bit fs) s)
+abbrev pub bits : List ℕ → Parsed (List Bool) → Parsed (List ℕ)
+bits pre r = then r (λ fs s. parsed (pre ++ map bit fs) s)
 
 pub bits-short : (n : ℕ) (t : List ℕ) → length t < n → bad ≡ bits [] (flags n t)
 unfolding then
 bits-short n t h = rw (flags-short n t h)
 
-bits-more : (x : Reading (List Bool)) (pre : List ℕ) (v : ℕ) (f : Bool) → bit f ≡ v → bits pre (then x (λ fs s. read (f ∷ fs) s)) ≡ bits (pre ++ (v ∷ [])) x
+bits-more : (x : Parsed (List Bool)) (pre : List ℕ) (v : ℕ) (f : Bool) → bit f ≡ v → bits pre (then x (λ fs s. parsed (f ∷ fs) s)) ≡ bits (pre ++ (v ∷ [])) x
 unfolding then
-bits-more (read fs s) pre v f e = ap (λ (l : List ℕ). read l s) (ap (λ (k : ℕ). pre ++ (k ∷ map bit fs)) e ∙ sym (append-assoc pre (v ∷ []) (map bit fs)))
+bits-more (parsed fs s) pre v f e = ap (λ (l : List ℕ). parsed l s) (ap (λ (k : ℕ). pre ++ (k ∷ map bit fs)) e ∙ sym (append-assoc pre (v ∷ []) (map bit fs)))
 bits-more bad pre v f e = refl
 
 -- the byte of a flag less that of 0
@@ -90,7 +90,7 @@ module _ (text : List ℕ) (at n i : ℕ) (h : i < n) (l : at + i < length text)
   abbrev b : ℕ
   b = getD text (at + i) 0
 
-  flags-one : flags (n - i) (drop (at + i) text) ≡ cond (eqb b 48 || eqb b 49) (then (flags (n - (i + 1)) (drop (at + (i + 1)) text)) λ fs r. read (eqb b 49 ∷ fs) r) bad
+  flags-one : flags (n - i) (drop (at + i) text) ≡ cond (eqb b 48 || eqb b 49) (then (flags (n - (i + 1)) (drop (at + (i + 1)) text)) λ fs r. parsed (eqb b 49 ∷ fs) r) bad
   unfolding flags
   flags-one =
       let m : n - i ≡ suc (n - (i + 1)) = omega arith in
@@ -106,26 +106,26 @@ module _ (text : List ℕ) (at n i : ℕ) (h : i < n) (l : at + i < length text)
 
   pub flags-turn : (b ≡ 48) ⊎ (b ≡ 49) → (out : List ℕ) → i < length out → bits (take i out) (flags (n - i) (drop (at + i) text)) ≡ bits (take (i + 1) (set out i (b - 48))) (flags (n - (i + 1)) (drop (at + (i + 1)) text))
   flags-turn f out o =
-      let e : flags (n - i) (drop (at + i) text) ≡ then (flags (n - (i + 1)) (drop (at + (i + 1)) text)) (λ fs r. read (eqb b 49 ∷ fs) r) = flags-one ∙ rw (flag-test b f) in
+      let e : flags (n - i) (drop (at + i) text) ≡ then (flags (n - (i + 1)) (drop (at + (i + 1)) text)) (λ fs r. parsed (eqb b 49 ∷ fs) r) = flags-one ∙ rw (flag-test b f) in
       let t : take (i + 1) (set out i (b - 48)) ≡ take i out ++ ((b - 48) ∷ []) = ap (λ (k : ℕ). take k (set out i (b - 48))) (add-one i) ∙ take-suc-set out i (b - 48) o in
       ap (bits (take i out)) e ∙ (bits-more (flags (n - (i + 1)) (drop (at + (i + 1)) text)) (take i out) (b - 48) (eqb b 49) (flag-bit b f) ∙ ap (λ (p : List ℕ). bits p (flags (n - (i + 1)) (drop (at + (i + 1)) text))) (sym t))
 
 -- ---- one thing after another
 
 module _ {A B : Type 0} (text : List ℕ) where
-  pub from-then : (p : Place) (f : List ℕ → Reading A) (k : A → List ℕ → Reading B) → readFrom text p (λ t. then (f t) k) ≡ then (readFrom text p f) k
+  pub from-then : (p : Place) (f : List ℕ → Parsed A) (k : A → List ℕ → Parsed B) → readFrom text p (λ t. then (f t) k) ≡ then (readFrom text p f) k
   unfolding then
   from-then (At a) f k = refl
   from-then Nowhere f k = refl
 
-  pub then-from : (p : Place) (v : A) (k : A → List ℕ → Reading B) → then (readFrom text p (read v)) k ≡ readFrom text p (k v)
+  pub then-from : (p : Place) (v : A) (k : A → List ℕ → Parsed B) → then (readFrom text p (parsed v)) k ≡ readFrom text p (k v)
   unfolding then
   then-from (At a) v k = refl
   then-from Nowhere v k = refl
 
   -- v was read from p on, up to r: what follows is read from r on
-  pub next : (p r : Place) (v : A) (f : List ℕ → Reading A) (k : A → List ℕ → Reading B) → readFrom text r (read v) ≡ readFrom text p f → readFrom text p (λ t. then (f t) k) ≡ readFrom text r (k v)
-  next p r v f k e = from-then p f k ∙ (ap (λ (x : Reading A). then x k) (sym e) ∙ then-from r v k)
+  pub next : (p r : Place) (v : A) (f : List ℕ → Parsed A) (k : A → List ℕ → Parsed B) → readFrom text r (parsed v) ≡ readFrom text p f → readFrom text p (λ t. then (f t) k) ≡ readFrom text r (k v)
+  next p r v f k e = from-then p f k ∙ (ap (λ (x : Parsed A). then x k) (sym e) ∙ then-from r v k)
 
 -- ---- the value of one digit or two
 
@@ -149,20 +149,20 @@ module _ (text : List ℕ) (at : ℕ) {a b : ℕ} (d : a ≡ getD text at 0 - 48
 
 -- ---- a place that is known
 
-module _ {A : Type 0} (text : List ℕ) (k : List ℕ → Reading A) where
+module _ {A : Type 0} (text : List ℕ) (k : List ℕ → Parsed A) where
   pub from-nowhere : {p : Place} → p ≡ Nowhere → bad ≡ readFrom text p k
   from-nowhere e = subst (λ (q : Place). bad ≡ readFrom text q k) (sym e) refl
 
-  pub from-at : {p : Place} {at : ℕ} {r : Reading A} → p ≡ At at → r ≡ k (drop at text) → r ≡ readFrom text p k
+  pub from-at : {p : Place} {at : ℕ} {r : Parsed A} → p ≡ At at → r ≡ k (drop at text) → r ≡ readFrom text p k
   from-at {r = r} e h = subst (λ (q : Place). r ≡ readFrom text q k) (sym e) h
 
 -- ---- a number, by the code's test of its value
 
 number-out : (t : List ℕ) (v : ℕ) → v ≡ value t → ltb v 1 || ltb 48 v ≡ true → bad ≡ number t
 unfolding number
-number-out t v e h = subst (λ (k : ℕ). bad ≡ cond (leb 1 k && leb k 48) (then (bytes (decimal k ++ (10 ∷ [])) t) λ _ r. read k r) bad) e (go (ltb v 1) (ltb 48 v) refl refl h)
+number-out t v e h = subst (λ (k : ℕ). bad ≡ cond (leb 1 k && leb k 48) (then (bytes (decimal k ++ (10 ∷ [])) t) λ _ r. parsed k r) bad) e (go (ltb v 1) (ltb 48 v) refl refl h)
   where
-    go : (a b : Bool) → ltb v 1 ≡ a → ltb 48 v ≡ b → a || b ≡ true → bad ≡ cond (leb 1 v && leb v 48) (then (bytes (decimal v ++ (10 ∷ [])) t) λ _ r. read v r) bad
+    go : (a b : Bool) → ltb v 1 ≡ a → ltb 48 v ≡ b → a || b ≡ true → bad ≡ cond (leb 1 v && leb v 48) (then (bytes (decimal v ++ (10 ∷ [])) t) λ _ r. parsed v r) bad
     go true b p q h = rw (lt-leb 1 v (ltb-true v 1 p))
     go false true p q h = rw (le-leb 1 v (ltb-false v 1 p), lt-leb v 48 (ltb-true 48 v q))
     go false false p q h = absurd (let z : _≡_ {A = ℕ} 0 1 = cc in omega arith)
@@ -179,13 +179,13 @@ module _ (text : List ℕ) {p : Place} {at v : ℕ} (a : p ≡ At at) (e : v ≡
   pub number-refused : ltb v 1 || ltb 48 v ≡ true → bad ≡ readFrom text p number
   number-refused h = from-at text number a (number-out (drop at text) v e h)
 
-  pub number-read : (r : Place) → ltb v 1 || ltb 48 v ≡ false → readFrom text r (read tt) ≡ bytes (decimal v ++ (10 ∷ [])) (drop at text) → readFrom text r (read v) ≡ readFrom text p number
+  pub number-read : (r : Place) → ltb v 1 || ltb 48 v ≡ false → readFrom text r (parsed tt) ≡ bytes (decimal v ++ (10 ∷ [])) (drop at text) → readFrom text r (parsed v) ≡ readFrom text p number
   unfolding number
   number-read r h b =
       let l = number-limits v h in
-      let k : Unit {0} → List ℕ → Reading ℕ = λ _ s. read v s in
-      let f : List ℕ → Reading (Unit {0}) = bytes (decimal v ++ (10 ∷ [])) in
-      let n : then (f (drop at text)) k ≡ readFrom text r (read v) = next text (At at) r tt f k b in
+      let k : Unit {0} → List ℕ → Parsed ℕ = λ _ s. parsed v s in
+      let f : List ℕ → Parsed (Unit {0}) = bytes (decimal v ++ (10 ∷ [])) in
+      let n : then (f (drop at text)) k ≡ readFrom text r (parsed v) = next text (At at) r tt f k b in
       let m : then (f (drop at text)) k ≡ number (drop at text) = rw (← e, le-leb 1 v (l .0), le-leb v 48 (l .1)) in
       from-at text number a (sym n ∙ m)
 
@@ -211,9 +211,9 @@ no-flag b h = go (eqb b 48) (eqb b 49) refl refl h
     go false true x y h = absurd (let z : _≡_ {A = ℕ} 0 1 = cc in omega arith)
     go false false x y h = (eqb-false b 48 x, eqb-false b 49 y)
 
-pub flags-all : (text out : List ℕ) (at n i : ℕ) → n ≤ i → i ≤ n → bits (take i out) (flags (n - i) (drop (at + i) text)) ≡ read (take n out) (drop (at + i) text)
+pub flags-all : (text out : List ℕ) (at n i : ℕ) → n ≤ i → i ≤ n → bits (take i out) (flags (n - i) (drop (at + i) text)) ≡ parsed (take n out) (drop (at + i) text)
 unfolding flags then
 flags-all text out at n i h l =
     let z : n - i ≡ 0 = omega arith in
     let e : i ≡ n = omega arith in
-    rw z (ap (λ (o : List ℕ). read o (drop (at + i) text)) (append-nil (take i out) ∙ ap (λ (k : ℕ). take k out) e))
+    rw z (ap (λ (o : List ℕ). parsed o (drop (at + i) text)) (append-nil (take i out) ∙ ap (λ (k : ℕ). take k out) e))

@@ -14,7 +14,7 @@ use Rattle.frame.specs.Runs.{runs}
 use Rattle.clumps_text.specs.declared.Place.{Place}
 use Rattle.clumps_text.specs.declared.Place.the-variants.{At, Nowhere}
 use Rattle.clumps_text.specs.declared.Sizes.{Sizes}
-use Rattle.clumps_text.specs.Input.{Frame, Reading, read, bad, then, parse}
+use Rattle.clumps_text.specs.Input.{Frame, Parsed, parsed, bad, then, parse}
 use Rattle.clumps_text.specs.Output.{bit, structureOf, refusal, answer, answerTo, printed, clumpsOf}
 use Rattle.frame.specs.Overlay.{Holds}
 use Rattle.clumps_text.specs.Steps.{readFrom, Bytes, frameBytes, bytesRead, FrameRead, isEmpty, endsAt, LabelReady, Labels, answerText}
@@ -72,7 +72,7 @@ flags-bytes (b ∷ fs) = ap (λ (c : Bool). c ∷ map nz (map bit fs)) (nz-bit b
 -- a frame was read, and nothing stands after it
 pub record Whole (text structure cells : List ℕ) (z : Sizes) : Type 0 where
   pub frame : Frame
-  pub is-read : parse text ≡ read frame []
+  pub is-read : parse text ≡ parsed frame []
   pub width : frame .width ≡ z .width
   pub lines : frame .lines ≡ z .lines
   pub structure-is : structureOf frame ≡ structure
@@ -87,16 +87,16 @@ module _ (text structure cells : List ℕ) (z : Sizes) (r : FrameRead text struc
   empty [] e = refl
   empty (b ∷ t) e = absurd (let y : _≡_ {A = ℕ} 0 1 = cc in omega arith)
 
-  whole-at : (p : Place) → endsAt text p ≡ true → readFrom text p (read taken) ≡ bytesRead (parse text) → Whole text structure cells z
+  whole-at : (p : Place) → endsAt text p ≡ true → readFrom text p (parsed taken) ≡ bytesRead (parse text) → Whole text structure cells z
   unfolding bytesRead frameBytes
   whole-at (At at) e h =
-      let t = through (parse text) (λ f s. read (frameBytes f) s) (sym h) in
+      let t = through (parse text) (λ f s. parsed (frameBytes f) s) (sym h) in
       let f = t .first in
       let q : frameBytes f ≡ taken = same-read (t .goes-on) in
       let n : t .after ≡ [] = same-rest (t .goes-on) ∙ empty (drop at text) e in
       record {
         frame = f;
-        is-read = t .reads ∙ ap (λ (s : List ℕ). read f s) n;
+        is-read = t .reads ∙ ap (λ (s : List ℕ). parsed f s) n;
         width = ap (λ (b : Bytes). b .width) q;
         lines = ap (λ (b : Bytes). b .lines) q;
         structure-is = ap (λ (b : Bytes). b .structure) q;
@@ -129,18 +129,18 @@ module _ (text structure cells : List ℕ) (z : Sizes) (r : FrameRead text struc
       let a : clumpsOf text ≡ answerTo (f .lines ∷ f .width ∷ []) (structureOf f) (f .cells) = ap printed (w .is-read) in
       sym (a ∙ (ap (λ (k : ℕ). answerTo (k ∷ f .width ∷ []) (structureOf f) (f .cells)) (w .lines) ∙ (ap (λ (k : ℕ). answerTo (z .lines ∷ k ∷ []) (structureOf f) (f .cells)) (w .width) ∙ (ap (λ (s : List ℕ). answerTo (z .lines ∷ z .width ∷ []) s (f .cells)) (w .structure-is) ∙ ap (answerTo (z .lines ∷ z .width ∷ []) structure) (w .cells-are)))))
 
-  refused-with : (x : Reading Frame) (t : List ℕ) → isEmpty t ≡ false → read taken t ≡ bytesRead x → printed x ≡ refusal 11
+  refused-with : (x : Parsed Frame) (t : List ℕ) → isEmpty t ≡ false → parsed taken t ≡ bytesRead x → printed x ≡ refusal 11
   unfolding bytesRead then printed isEmpty
-  refused-with (read f []) t e h = absurd (let u = same-rest h in let y : _≡_ {A = ℕ} 0 1 = cc in omega arith)
-  refused-with (read f (b ∷ s)) t e h = refl
+  refused-with (parsed f []) t e h = absurd (let u = same-rest h in let y : _≡_ {A = ℕ} 0 1 = cc in omega arith)
+  refused-with (parsed f (b ∷ s)) t e h = refl
   refused-with bad t e h = refl
 
-  refused-bad : (x : Reading Frame) → bad ≡ bytesRead x → printed x ≡ refusal 11
+  refused-bad : (x : Parsed Frame) → bad ≡ bytesRead x → printed x ≡ refusal 11
   unfolding bytesRead then printed
-  refused-bad (read f s) h = absurd (let y : _≡_ {A = ℕ} 0 1 = cc in omega arith)
+  refused-bad (parsed f s) h = absurd (let y : _≡_ {A = ℕ} 0 1 = cc in omega arith)
   refused-bad bad h = refl
 
-  refused-at : (p : Place) → endsAt text p ≡ false → readFrom text p (read taken) ≡ bytesRead (parse text) → refusal 11 ≡ clumpsOf text
+  refused-at : (p : Place) → endsAt text p ≡ false → readFrom text p (parsed taken) ≡ bytesRead (parse text) → refusal 11 ≡ clumpsOf text
   unfolding clumpsOf
   refused-at (At at) e h = sym (refused-with (parse text) (drop at text) e h)
   refused-at Nowhere e h = sym (refused-bad (parse text) h)

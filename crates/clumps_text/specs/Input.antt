@@ -40,18 +40,18 @@ textOf f = textBefore f []
 -- ---- the frame read from a text
 
 -- what was read, and the text after it; or that the text is not of the form
-pub data Reading (A : Type 0) : Type 0 where
-  read : A → List ℕ → Reading A
-  bad : Reading A
+pub data Parsed (A : Type 0) : Type 0 where
+  parsed : A → List ℕ → Parsed A
+  bad : Parsed A
 
 -- go on with what was read and the text after it
-unfoldable pub then : {A B : Type 0} → Reading A → (A → List ℕ → Reading B) → Reading B
-then (read a t) k = k a t
+unfoldable pub then : {A B : Type 0} → Parsed A → (A → List ℕ → Parsed B) → Parsed B
+then (parsed a t) k = k a t
 then bad k = bad
 
 -- bytes that must stand here
-unfoldable pub bytes : List ℕ → List ℕ → Reading (Unit {0})
-bytes [] t = read tt t
+unfoldable pub bytes : List ℕ → List ℕ → Parsed (Unit {0})
+bytes [] t = parsed tt t
 bytes (x ∷ xs) [] = bad
 bytes (x ∷ xs) (y ∷ t) = cond (eqb x y) (bytes xs t) bad
 
@@ -60,30 +60,30 @@ unfoldable pub value : List ℕ → ℕ
 value t = cond (eqb (getD t 1 0) 10) (getD t 0 0 - 48) (10 * (getD t 0 0 - 48) + (getD t 1 0 - 48))
 
 -- a number from 1 to 48, decimal without leading zeros, and the byte 10 that ends its line
-unfoldable pub number : List ℕ → Reading ℕ
-number t = cond (leb 1 (value t) && leb (value t) 48) (then (bytes (decimal (value t) ++ (10 ∷ [])) t) λ _ r. read (value t) r) bad
+unfoldable pub number : List ℕ → Parsed ℕ
+number t = cond (leb 1 (value t) && leb (value t) 48) (then (bytes (decimal (value t) ++ (10 ∷ [])) t) λ _ r. parsed (value t) r) bad
 
 -- n characters 0 or 1
-unfoldable pub flags : ℕ → List ℕ → Reading (List Bool)
-flags zero t = read [] t
+unfoldable pub flags : ℕ → List ℕ → Parsed (List Bool)
+flags zero t = parsed [] t
 flags (suc n) [] = bad
-flags (suc n) (b ∷ t) = cond (eqb b 48 || eqb b 49) (then (flags n t) λ fs r. read (eqb b 49 ∷ fs) r) bad
+flags (suc n) (b ∷ t) = cond (eqb b 48 || eqb b 49) (then (flags n t) λ fs r. parsed (eqb b 49 ∷ fs) r) bad
 
 -- how many flags the structure's line has: none where it ends at once
 unfoldable pub given : List ℕ → ℕ
 given t = cond (eqb (getD t 0 0) 10) 0 9
 
 -- the last two lines, where the first two say w and l
-unfoldable pub lastLines : ℕ → ℕ → List ℕ → Reading Frame
+unfoldable pub lastLines : ℕ → ℕ → List ℕ → Parsed Frame
 lastLines w l t₁ =
     then (bytes structureName t₁) λ _ t₂.
     then (flags (given t₂) t₂) λ s t₃.
     then (bytes (10 ∷ cellsName) t₃) λ _ t₄.
     then (flags (l * w) t₄) λ c t₅.
-    then (bytes (10 ∷ []) t₅) λ _ t₆. read (record { width = w; lines = l; structure = s; cells = c }) t₆
+    then (bytes (10 ∷ []) t₅) λ _ t₆. parsed (record { width = w; lines = l; structure = s; cells = c }) t₆
 
 -- the frame whose four lines begin the text
-unfoldable pub parse : List ℕ → Reading Frame
+unfoldable pub parse : List ℕ → Parsed Frame
 parse t₁ =
     then (bytes widthName t₁) λ _ t₂.
     then (number t₂) λ w t₃.

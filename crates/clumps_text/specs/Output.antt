@@ -6,7 +6,7 @@ use Prim.Native.Nat.{ℕ, _-_}
 use Rattle.frame.specs.ChainRule.{groupCount, labels}
 use Rattle.frame.specs.Runs.{runs}
 use Rattle.clumps_text.specs.Text.{line, decimal, decimals, runsName, joinsName, objectsName, labelsName, refusedName}
-use Rattle.clumps_text.specs.Input.{Frame, Reading, read, bad, parse}
+use Rattle.clumps_text.specs.Input.{Frame, Parsed, parsed, bad, parse}
 
 -- ---- the frame that is labelled
 
@@ -46,9 +46,9 @@ abbrev pub answerOf : Frame → List ℕ
 answerOf f = answerTo (shapeOf f) (structureOf f) (f .cells)
 
 -- a text that is not of the form, or has bytes past its fourth line, is refused by 11
-unfoldable pub printed : Reading Frame → List ℕ
-printed (read f []) = answerOf f
-printed (read f (b ∷ rest)) = refusal 11
+unfoldable pub printed : Parsed Frame → List ℕ
+printed (parsed f []) = answerOf f
+printed (parsed f (b ∷ rest)) = refusal 11
 printed bad = refusal 11
 
 unfoldable pub clumpsOf : List ℕ → List ℕ

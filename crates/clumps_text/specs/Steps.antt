@@ -11,23 +11,23 @@ use Rattle.frame.specs.Runs.{runs}
 use Rattle.clumps_text.specs.declared.Place.{Place}
 use Rattle.clumps_text.specs.declared.Place.the-variants.{At, Nowhere}
 use Rattle.clumps_text.specs.declared.Sizes.{Sizes}
-use Rattle.clumps_text.specs.Input.{Frame, Reading, read, bad, then, flags, given, lastLines, parse}
+use Rattle.clumps_text.specs.Input.{Frame, Parsed, parsed, bad, then, flags, given, lastLines, parse}
 use Rattle.clumps_text.specs.Output.{bit, structureBytes, structureOf, refusal, answer}
 
 -- ---- reading
 
 -- what is read from a place of the text on; from nowhere nothing is
-abbrev pub readFrom : {A : Type 0} → List ℕ → Place → (List ℕ → Reading A) → Reading A
+abbrev pub readFrom : {A : Type 0} → List ℕ → Place → (List ℕ → Parsed A) → Parsed A
 readFrom text (At at) k = k (drop at text)
 readFrom text Nowhere k = bad
 
 -- flags as bytes 0 and 1
-unfoldable pub bitsRead : ℕ → List ℕ → Reading (List ℕ)
-bitsRead n t = then (flags n t) λ fs s. read (map bit fs) s
+unfoldable pub bitsRead : ℕ → List ℕ → Parsed (List ℕ)
+bitsRead n t = then (flags n t) λ fs s. parsed (map bit fs) s
 
 -- the structure's bytes, by its flags or the default's
-unfoldable pub structureRead : List ℕ → Reading (List ℕ)
-structureRead t = then (flags (given t) t) λ fs s. read (structureBytes fs) s
+unfoldable pub structureRead : List ℕ → Parsed (List ℕ)
+structureRead t = then (flags (given t) t) λ fs s. parsed (structureBytes fs) s
 
 -- a frame as the labelling takes it: structure and cells as bytes
 pub record Bytes : Type 0 where
@@ -39,8 +39,8 @@ pub record Bytes : Type 0 where
 unfoldable pub frameBytes : Frame → Bytes
 frameBytes f = record { width = f .width; lines = f .lines; structure = structureOf f; cells = map bit (f .cells) }
 
-unfoldable pub bytesRead : Reading Frame → Reading Bytes
-bytesRead r = then r λ f s. read (frameBytes f) s
+unfoldable pub bytesRead : Parsed Frame → Parsed Bytes
+bytesRead r = then r λ f s. parsed (frameBytes f) s
 
 -- the first two lines are read, with the numbers that they say
 pub record SizesRead (text : List ℕ) (z : Sizes) : Type 0 where
@@ -52,7 +52,7 @@ pub record SizesRead (text : List ℕ) (z : Sizes) : Type 0 where
 pub record FrameRead (text structure cells : List ℕ) (z : Sizes) : Type 0 where
   pub most-width : z .width ≤ 48
   pub most-lines : z .lines ≤ 48
-  pub reads : readFrom text (z .next) (read (record { width = z .width; lines = z .lines; structure = structure; cells = take (z .lines * z .width) cells })) ≡ bytesRead (parse text)
+  pub reads : readFrom text (z .next) (parsed (record { width = z .width; lines = z .lines; structure = structure; cells = take (z .lines * z .width) cells })) ≡ bytesRead (parse text)
 
 -- no text is left from a place on
 unfoldable pub isEmpty : List ℕ → Bool

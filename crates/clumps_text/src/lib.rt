@@ -10,7 +10,7 @@ ghost use Rattle.frame.specs.Kinds.{nz};
 ghost use Rattle.label.specs.Cases.{readAnswer};
 ghost use Rattle.frame.specs.Overlay.{overlay, Holds, Adds};
 ghost use Rattle.clumps_text.specs.Text.{line, decimal, decimals};
-ghost use Rattle.clumps_text.specs.Input.{read, bytes, value, number, given};
+ghost use Rattle.clumps_text.specs.Input.{parsed, bytes, value, number, given};
 ghost use Rattle.clumps_text.specs.Output.{structureBytes, refusal, answer, answerTo, clumpsOf};
 ghost use Rattle.clumps_text.specs.Steps.{readFrom, bitsRead, structureRead, SizesRead, FrameRead, endsAt, LabelReady, Labels, answerText};
 
@@ -50,7 +50,7 @@ fn bytes_left(text: &[u8], at: usize) -> usize
 
 // Bytes that must stand here.
 fn bytes_at(text: &[u8], place: Place, name: &[u8]) -> Place
-    ensures { λ r. ⌜ readFrom (now (text .entry)) r (read tt) ≡ readFrom (now (text .entry)) place (bytes (now (name .entry))) ⌝ }
+    ensures { λ r. ⌜ readFrom (now (text .entry)) r (parsed tt) ≡ readFrom (now (text .entry)) place (bytes (now (name .entry))) ⌝ }
 {
     let Place::At(at) = place else {
         return Place::Nowhere;
@@ -95,7 +95,7 @@ fn value_at(text: &[u8], at: usize) -> usize
 
 // A number from 1 to 48 without leading zeros, and the byte 10 that ends its line.
 fn number_at(text: &[u8], place: Place) -> Number
-    ensures { λ r. ⌜ (r .value ≤ 48) × (readFrom (now (text .entry)) (r .next) (read (r .value)) ≡ readFrom (now (text .entry)) place number) ⌝ }
+    ensures { λ r. ⌜ (r .value ≤ 48) × (readFrom (now (text .entry)) (r .next) (parsed (r .value)) ≡ readFrom (now (text .entry)) place number) ⌝ }
 {
     let Place::At(at) = place else {
         return Number {
@@ -119,7 +119,7 @@ fn number_at(text: &[u8], place: Place) -> Number
 // A number's decimal, and the byte 10 that ends its line.
 fn decimal_at(text: &[u8], place: Place, v: usize) -> Place
     requires { ⌜ v ≤ 48 ⌝ }
-    ensures { λ r. ⌜ readFrom (now (text .entry)) r (read tt) ≡ readFrom (now (text .entry)) place (bytes (decimal v ++ (10 ∷ []))) ⌝ }
+    ensures { λ r. ⌜ readFrom (now (text .entry)) r (parsed tt) ≡ readFrom (now (text .entry)) place (bytes (decimal v ++ (10 ∷ []))) ⌝ }
 {
     if v < 10 {
         let one = [48 + v as u8, 10];
@@ -132,7 +132,7 @@ fn decimal_at(text: &[u8], place: Place, v: usize) -> Place
 // `n` characters 0 or 1, into the first bytes of `out`.
 fn flags_at(text: &[u8], place: Place, n: usize, out: &mut [u8]) -> Place
     requires { ⌜ n ≤ length (now out) ⌝ }
-    ensures { λ r. ⌜ (drop n (now (out .exit)) ≡ drop n (now (out .entry))) × (readFrom (now (text .entry)) r (read (take n (now (out .exit)))) ≡ readFrom (now (text .entry)) place (bitsRead n)) ⌝ }
+    ensures { λ r. ⌜ (drop n (now (out .exit)) ≡ drop n (now (out .entry))) × (readFrom (now (text .entry)) r (parsed (take n (now (out .exit)))) ≡ readFrom (now (text .entry)) place (bitsRead n)) ⌝ }
 {
     let Place::At(at) = place else {
         return Place::Nowhere;
@@ -187,7 +187,7 @@ fn given_at(text: &[u8], at: usize) -> usize
 // The structure's flags, into a slice that holds the default.
 fn structure_at(text: &[u8], place: Place, structure: &mut [u8]) -> Place
     requires { ⌜ now structure ≡ structureBytes [] ⌝ }
-    ensures { λ r. ⌜ readFrom (now (text .entry)) r (read (now (structure .exit))) ≡ readFrom (now (text .entry)) place structureRead ⌝ }
+    ensures { λ r. ⌜ readFrom (now (text .entry)) r (parsed (now (structure .exit))) ≡ readFrom (now (text .entry)) place structureRead ⌝ }
 {
     let Place::At(at) = place else {
         return Place::Nowhere;
