@@ -17,7 +17,7 @@ use Rattle.frame.specs.Words.{parentAt}
 use Rattle.forest.specs.Forest.{rootOf, grouping}
 use Rattle.forest.specs.Unions.{parentIn, Parents, ParentsOnly, Found, Finds, Union, Unites}
 use Rattle.forest.proofs.ForestLaws.{root-stays, root-le, root-root, root-parent, root-unique, grouping-rep}
-use Rattle.forest.proofs.ParentLaws.{kept-parents, kept-trans, put-same, put-other, put-kept}
+use Rattle.forest.proofs.ParentLaws.{kept-refl, kept-parents, kept-trans, put-same, put-other, put-kept}
 
 -- the parent's parent, and the words once it is the parent
 abbrev over : List ℕ → ℕ → ℕ
@@ -186,6 +186,16 @@ module _ (p o q : List ℕ) (n a b ra rb : ℕ) (P : Parents p n) (ha : a < n) (
 
       right : (r : ℕ) → r < n → merge ra rb (rootOf (parentIn q) r) ≡ rep (record { from = a; to = b } ∷ grouping (parentIn p) n) r
       right r m = unfold rep in rw (grouping-rep (parentIn p) n (P .low) a ha, grouping-rep (parentIn p) n (P .low) b hb, grouping-rep (parentIn p) n (P .low) r m, C .same r m, C .is-a, C .is-b)
+
+-- runs with one parent have one root
+module _ (p : List ℕ) (n a b : ℕ) (P : Parents p n) (ha : a < n) (hb : b < n) where
+  stands : (x : ℕ) → Found p p n x (rootOf (parentIn p) x)
+  stands x = record { kept = kept-refl p n P; same = λ r m. refl; found = refl }
+
+  pub one-parent : parentIn p a ≡ parentIn p b → Union p p n a b false
+  one-parent e =
+      let up = root-parent (parentIn p) n (P .low) in
+      both-idle p p p n a b _ _ P ha hb (stands a) (stands b) (sym (up a ha) ∙ ap (rootOf (parentIn p)) e ∙ up b hb)
 
 -- ---- neither changes how many words there are
 

@@ -25,7 +25,8 @@ pub fn reset(p: &mut [u32], a: usize, b: usize)
     }
 }
 
-// The root of run `x`. Each second run on the way gets its parent's parent for a parent, so that the next way is shorter.
+// The root of run `x`. Each second run on the way gets its parent's parent for a parent, so that the next way is shorter. A root and a
+// run right below one take the same branch.
 pub fn find(p: &mut [u32], x: usize) -> usize
     requires { ⌜ Parents (now p) (suc x) ⌝ }
     ensures { λ s. ⌜ Finds (now (p .entry)) (now (p .exit)) x s ⌝ }
@@ -33,20 +34,24 @@ pub fn find(p: &mut [u32], x: usize) -> usize
     let mut at = x;
     loop {
         let up = p[frame::STRIDE * at + frame::PARENT] as usize;
-        if up == at {
-            return at;
+        let over = p[frame::STRIDE * up + frame::PARENT] as usize;
+        if over == up {
+            return up;
         }
-        let over = p[frame::STRIDE * up + frame::PARENT];
-        p[frame::STRIDE * at + frame::PARENT] = over;
-        at = over as usize;
+        p[frame::STRIDE * at + frame::PARENT] = over as u32;
+        at = over;
     }
 }
 
-// Makes one group of the groups of runs `a` and `b`; true where they were two. The smaller root stays a root.
+// Makes one group of the groups of runs `a` and `b`; true where they were two. The smaller root stays a root. Most unions are of runs
+// that share a parent already.
 pub fn union(p: &mut [u32], a: usize, b: usize) -> bool
     requires { ⌜ Parents (now p) (suc (max a b)) ⌝ }
     ensures { λ t. ⌜ Unites (now (p .entry)) (now (p .exit)) a b t ⌝ }
 {
+    if p[frame::STRIDE * a + frame::PARENT] == p[frame::STRIDE * b + frame::PARENT] {
+        return false;
+    }
     let ra = find(p, a);
     let rb = find(p, b);
     if ra == rb {

@@ -10,7 +10,7 @@ use Rattle.frame.specs.Memory.{stride}
 use Rattle.frame.specs.Words.{parentAt}
 use Rattle.forest.specs.Forest.{rootOf}
 use Rattle.forest.specs.Unions.{parentIn, Parents, Finds}
-use Rattle.forest.proofs.ForestLaws.{root-stays}
+use Rattle.forest.proofs.ForestLaws.{root-stays, root-parent}
 use Rattle.forest.proofs.ParentLaws.{kept-refl, kept-parents}
 use Rattle.forest.proofs.UnionLaws.{found-half, finds-long}
 use Rattle.forest.proofs.find.Statement.{statement}
@@ -59,25 +59,37 @@ slice-read-up c = omega (arith, room (c .before))
 cast-up : tie.Need-cast-up Inv-loop μ-loop
 cast-up c = omega (arith, c .slice-known .given (parentAt (c .before .loop .at)))
 
-same-length : tie.Need-same-length Inv-loop μ-loop
-same-length c = let l = c .before .before in finds-long _ _ _ _ (l .before .pre) (l .loop .inv .1)
-
-returns : tie.Need-returns Inv-loop μ-loop
-returns c =
-    let l = c .before .before .loop in
-    λ n P h. let I = l .inv .1 n P h in record { kept = I .kept; same = I .same; found = sym (root-stays (parentIn (l .p)) (l .at) (c .if1 .taken)) ∙ I .found }
-
 mul-over : tie.Need-mul-over Inv-loop μ-loop
-mul-over c = omega (arith, low (c .before .before), c .before .before .loop .inv .0)
+mul-over c = omega (arith, low (c .before), c .before .loop .inv .0)
 
 add-over : tie.Need-add-over Inv-loop μ-loop
-add-over c = omega (arith, low (c .before .before), c .before .before .loop .inv .0)
+add-over c = omega (arith, low (c .before), c .before .loop .inv .0)
 
 mul-over-2 : tie.Need-mul-over-2 Inv-loop μ-loop
-mul-over-2 c = omega (arith, low (c .before .before), c .before .before .loop .inv .0)
+mul-over-2 c = omega (arith, low (c .before), c .before .loop .inv .0)
 
 slice-read-over : tie.Need-slice-read-over Inv-loop μ-loop
-slice-read-over c = omega (arith, room-up (c .before .before .before))
+slice-read-over c = omega (arith, room-up (c .before .before))
+
+cast-over : tie.Need-cast-over Inv-loop μ-loop
+cast-over c =
+    let l = c .before .before .loop in
+    omega (arith, c .slice-known2 .given (parentAt (parentIn (l .p) (l .at))))
+
+same-length : tie.Need-same-length Inv-loop μ-loop
+same-length c = let l = c .before .before .before in finds-long _ _ _ _ (l .before .pre) (l .loop .inv .1)
+
+-- the parent of `at` is its own parent: the root of `at`, and so of x
+returns : tie.Need-returns Inv-loop μ-loop
+returns c =
+    let k = c .before .before .before in
+    let l = k .loop in
+    λ n P h. let I = l .inv .1 n P h in record { kept = I .kept; same = I .same; found = sym (root-stays (parentIn (l .p)) _ (c .if1 .taken)) ∙ root-parent (parentIn (l .p)) n (I .kept .low) (l .at) (omega (arith, l .inv .0)) ∙ I .found }
+
+cast-p : tie.Need-cast-p Inv-loop μ-loop
+cast-p c =
+    let l = c .before .before .before .loop in
+    omega (arith, c .before .slice-known2 .given (parentAt (parentIn (l .p) (l .at))))
 
 mul-p : tie.Need-mul-p Inv-loop μ-loop
 mul-p c = omega (arith, room (c .before .before .before))
@@ -91,13 +103,8 @@ mul-p-2 c = omega (arith, room (c .before .before .before))
 slice-write-p : tie.Need-slice-write-p Inv-loop μ-loop
 slice-write-p c = omega (arith, room (c .before .before .before))
 
-cast-at : tie.Need-cast-at Inv-loop μ-loop
-cast-at c =
-    let l = c .before .before .before .loop in
-    omega (arith, c .slice-known2 .given (parentAt (parentIn (l .p) (l .at))))
-
 loop-less : tie.Need-loop-less Inv-loop μ-loop
-loop-less c = let l = c .before .before .before in omega (arith, low l, low-up l, c .before .if1 .left)
+loop-less c = let l = c .before .before .before in omega (arith, low l, low-up l, c .if1 .left)
 
 loop-again : tie.Need-loop-again Inv-loop μ-loop
 loop-again c =
@@ -116,16 +123,17 @@ find-spec =
     mul-up-2
     slice-read-up
     cast-up
-    same-length
-    returns
     mul-over
     add-over
     mul-over-2
     slice-read-over
+    cast-over
+    same-length
+    returns
+    cast-p
     mul-p
     add-p
     mul-p-2
     slice-write-p
-    cast-at
     loop-less
     loop-again)
