@@ -17,7 +17,7 @@ use Rattle.frame.specs.Memory.{mostRuns}
 use Rattle.frame.specs.Words.{lineStart, runStart, runEnd, parentOf}
 use Rattle.forest.specs.Forest.{own, nonRoots}
 use Rattle.sound.specs.Stored.{WordsSound, wordsSound, PassReady}
-use Rattle.sound.specs.Lines.{LineInPass, RunsSound, mostCells}
+use Rattle.sound.specs.Lines.{LineInPass, RunsSound}
 use Rattle.sound.proofs.StoredLaws.{words-right, right-words}
 use Rattle.sound.proofs.LineLaws.{or-false}
 
@@ -47,16 +47,12 @@ module _ (L w : ℕ) (left : Bool) (ws : List ℕ) where
     nonempty = λ r m n. W .nonempty r (low r n);
     inside = λ r m n. W .inside r (low r n);
     ordered = λ r m n. W .ordered i l r (low r (omega arith)) m n;
-    few-cells = λ r m n. short r (low r n) left refl;
+    single = λ e r m n. W .single e r (low r n);
     parents = λ r m n. W .parents r (low r n);
   }
     where
       low : (r : ℕ) → r < lineStart ws (suc i) → r < runs
       low r n = omega (arith, rising-to W (suc i) fed l (le-refl fed), W .last)
-
-      short : (r : ℕ) → r < runs → (t : Bool) → left ≡ t → end r ≤ start r + mostCells left w
-      short r n true e = rw e (omega (arith, W .inside r n))
-      short r n false e = rw e (omega (arith, W .single e r n))
 
   -- sound lines and one more
   line-more : {i a k b : ℕ} (j : ℕ) → Words i a k → b ≡ lineStart ws (suc i) → a ≤ b → b ≤ a + mostRuns left w → Runs a b → j + nonRoots parent a ≡ nonRoots parent b → Words (suc i) b (k + j)
@@ -68,7 +64,7 @@ module _ (L w : ℕ) (left : Bool) (ws : List ℕ) where
     nonempty = λ r l. both (λ r. start r < end r) (W .nonempty) (R .nonempty) r l (ltb r a) refl;
     inside = λ r l. both (λ r. end r ≤ w) (W .inside) (R .inside) r l (ltb r a) refl;
     ordered = λ ℓ l r m p q. near ℓ l r p q (ℕ-discrete ℓ i);
-    single = λ e r l. both (λ r. end r ≤ suc (start r)) (W .single e) (λ r m n. one e r (R .few-cells r m n)) r l (ltb r a) refl;
+    single = λ e r l. both (λ r. end r ≤ suc (start r)) (W .single e) (R .single e) r l (ltb r a) refl;
     parents = λ r l. both (λ r. parent r ≤ r) (W .parents) (R .parents) r l (ltb r a) refl;
     join-count = omega (arith, W .join-count);
   }
@@ -89,9 +85,6 @@ module _ (L w : ℕ) (left : Bool) (ws : List ℕ) where
           let q' : suc r < lineStart ws (suc i) = subst (λ (x : ℕ). suc r < lineStart ws (suc x)) e q in
           R .ordered r (omega (arith, W .last)) (omega arith)
       near ℓ l r p q (no e) = W .ordered ℓ (omega arith) r (omega (arith, rising-to W (suc ℓ) i (omega arith) (le-refl i), W .last)) p q
-
-      one : left ≡ false → (r : ℕ) → end r ≤ start r + mostCells left w → end r ≤ suc (start r)
-      one e r h = let h' : end r ≤ start r + 1 = rw e at h in omega arith
 
   -- ---- the pass
 

@@ -2,8 +2,10 @@
 //
 // Promised (specs/Stored.antt): the answer is the test of all the clauses about words.
 ghost use mathlib.Core.Path.{_≡_};
+ghost use mathlib.Core.Bool.{Bool};
+ghost use Prim.Native.Nat.{_<_, _≤_};
 ghost use Rattle.sound.specs.Stored.{wordsSound, PassReady};
-ghost use Rattle.sound.specs.Lines.{LineInPass, LineFound};
+ghost use Rattle.sound.specs.Lines.{LineInPass, LineFound, longestRun, noRun};
 
 // Whether the words are sound, for `lines` lines of `width` cells, `fed` of them fed, with those counts of runs and joins. `left` says
 // that the left byte is nonzero.
@@ -62,7 +64,7 @@ fn line_sound(
     ensures { λ r. ⌜ LineFound lines width left a b (now (words .entry)) r ⌝ }
 {
     let gap = left as usize;
-    let longest = if left { width } else { 1 };
+    let longest = if left { LONGEST } else { 1 };
     let base = lines + 1;
     let mut least: usize = 0;
     let mut nonroots: usize = 0;
@@ -72,7 +74,7 @@ fn line_sound(
         let s = words[base + at] as usize;
         let e = words[base + (at + frame::END)] as usize;
         let p = words[base + (at + frame::PARENT)] as usize;
-        if (s < least) | (e <= s) | (e > s + longest) | (p > r) {
+        if (s < least) | no_run(longest, s, e) | (p > r) {
             return LineSound::Unsound;
         }
         least = e + gap;
@@ -83,4 +85,16 @@ fn line_sound(
         return LineSound::Unsound;
     }
     LineSound::Sound(nonroots)
+}
+
+// With the left byte nonzero a run may have as many cells as words count: that it is not longer than its line follows from its end.
+const LONGEST: usize = 4294967296;
+
+// Whether `s` to before `e` is no run: it has no cell, or more than `longest`. One comparison tells both, since a negative length wraps to
+// a large number.
+fn no_run(longest: usize, s: usize, e: usize) -> bool
+    requires { ⌜ (longest ≤ 4294967296) × (s < 4294967296) × (e < 4294967296) ⌝ }
+    ensures { λ t. ⌜ ((left : Bool) → longest ≡ longestRun left → t ≡ noRun left s e) ⌝ }
+{
+    std::num::wrapping_sub_usize(e, s + 1) >= longest
 }
