@@ -3,3 +3,4 @@ pub mod ProductLaws
 pub mod DimsLaws
 pub mod LeftLaws
 pub mod GeoLaws
+pub mod ShapeSoundLaws

@@ -1,14 +1,16 @@
--- Shape and structure as the arrays of a record: what the functions ask of them, and what they give.
+-- Shape and structure as the arrays of a record: what the functions ask of them, what they give, and which may stand in a record.
 -- Assumes nothing.
 use mathlib.Core.Path.{_≡_}
-use mathlib.Core.Bool.{false}
-use mathlib.Core.List.{List}
+use mathlib.Core.Bool.{Bool, false, not}
+use mathlib.Core.List.{List, [], _∷_}
 use Prim.Native.Nat.{ℕ, suc, _^_, _≤_}
+use lib.Dec.{leb}
 use lib.ListN.{length}
-use Rattle.frame.specs.Lists.{entries}
+use Rattle.frame.specs.Lists.{entries, every}
 use Rattle.frame.specs.Shape.{width, leading, lines}
 use Rattle.frame.specs.Structure.{leftOn}
-use Rattle.frame.specs.Causes.{badRank, tooLarge}
+use Rattle.frame.specs.Memory.{wordsNeeded}
+use Rattle.frame.specs.Causes.{badRank, hasZero, tooLarge}
 use Rattle.link.specs.Lines.{leadingOf, ThreeDims}
 use Rattle.geo.specs.declared.Geo.{Geo}
 
@@ -26,3 +28,28 @@ pub record GeoOf (rank : ℕ) (shape structure : List ℕ) (g : Geo) : Type 0 wh
   pub lines-is : g .lines ≡ lines (entries rank shape)
   pub width-is : g .width ≡ width (entries rank shape)
   pub left-is : g .left ≡ leftOn (entries rank shape) (entries (3 ^ rank) structure)
+
+-- shape, memory and lines fed break no clause of document 01's "Unsound, exactly": causes 1, 3 and 4, the words needed, the lines
+module _ (rank : ℕ) (shape structure : List ℕ) (words fed : ℕ) where
+  abbrev dims : List ℕ
+  dims = entries rank shape
+
+  abbrev bytes : List ℕ
+  bytes = entries (3 ^ rank) structure
+
+  pub record ShapeSound : Type 0 where
+    pub ranked : badRank dims ≡ false
+    pub dimensions : hasZero (leading dims) ≡ false
+    pub limits : tooLarge dims ≡ false
+    pub memory : wordsNeeded dims bytes ≤ words
+    pub within : fed ≤ lines dims
+
+  -- computed: that it decides `ShapeSound` is proved in proofs/ShapeSoundLaws.antt
+  unfoldable pub shapeSound : Bool
+  shapeSound =
+      every (not (badRank dims)
+      ∷ not (hasZero (leading dims))
+      ∷ not (tooLarge dims)
+      ∷ leb (wordsNeeded dims bytes) words
+      ∷ leb fed (lines dims)
+      ∷ [])

@@ -4,6 +4,7 @@
 //     geo_of                           leading dimensions, lines, width and left byte, where the shape is not too large
 //     words_needed                     the words of memory that a session needs
 //     bad_rank, has_zero, too_large    causes 1, 3 and 4
+//     shape_sound                      whether shape, memory and lines fed are such as a sound record's
 //     shape_of, structure_of           the arrays of a lent shape and structure
 ghost use mathlib.Core.Path.{_≡_};
 ghost use mathlib.Core.Bool.{false, _||_};
@@ -16,7 +17,7 @@ ghost use Rattle.frame.specs.Shape.{size, width, leading};
 ghost use Rattle.frame.specs.Structure.{on, leftCode};
 ghost use Rattle.frame.specs.Memory.{mostRuns, wordsNeeded};
 ghost use Rattle.frame.specs.Causes.{badRank, hasZero, tooLarge};
-ghost use Rattle.geo.specs.Geometry.{GeoReady, GeoOf};
+ghost use Rattle.geo.specs.Geometry.{GeoReady, GeoOf, shapeSound};
 
 // The first width, and the first count of lines or of cells, that is too large.
 const WIDTH_LIMIT: usize = 2147483647;
@@ -98,6 +99,33 @@ pub fn too_large(rank: usize, shape: [usize; 4]) -> bool
     let lines = limited_lines(leading_dims(rank, shape));
     let cells = product(lines, w);
     (w >= WIDTH_LIMIT) | (lines >= LIMIT) | (cells >= LIMIT)
+}
+
+// Whether shape, memory and lines fed are such as a sound record's, whatever they are: no cause 1, 3 or 4, the words that are
+// needed, no line too many. `memory` is the count of words.
+pub fn shape_sound(
+    rank: usize,
+    shape: [usize; 4],
+    structure: &[u8; 81],
+    memory: usize,
+    fed: usize,
+) -> bool
+    ensures { λ r. ⌜ r ≡ shapeSound rank shape (now (structure .entry)) memory fed ⌝ }
+{
+    if bad_rank(rank) {
+        return false;
+    }
+    if has_zero(rank, shape) {
+        return false;
+    }
+    if too_large(rank, shape) {
+        return false;
+    }
+    if memory < words_needed(rank, shape, structure) {
+        return false;
+    }
+    let g = geo_of(rank, shape, structure);
+    fed <= g.lines
 }
 
 // ---- dimensions

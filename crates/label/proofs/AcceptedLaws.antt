@@ -3,7 +3,7 @@
 use mathlib.Core.Path.{_≡_, sym, ap, _∙_, subst}
 use mathlib.Core.Bool.{Bool}
 use mathlib.Core.List.{List}
-use Prim.Native.Nat.{ℕ, zero, suc, _+_, _-_, _^_, _≤_, _<_}
+use Prim.Native.Nat.{ℕ, _+_, _-_, _≤_, _<_}
 use native.Mathlib.Omega.{arith}
 use borrow.Author.Tests.{leb-true}
 use lib.ListN.{length}
@@ -15,6 +15,7 @@ use Rattle.frame.specs.Plain.{Answer, fed, counted}
 use Rattle.frame.proofs.ShapeLaws.{Fits}
 use Rattle.frame.proofs.CauseLaws.{rank-right, Allowed, open-accepted, feed-accepted, accepted-feed, read-accepted, sizes-accepted}
 use Rattle.frame.proofs.PlainLaws.{unless-none, kept-new}
+use Rattle.geo.proofs.ShapeSoundLaws.{bytes-few}
 use Rattle.label.specs.declared.Session.{Session}
 use Rattle.label.specs.Record.{shapeOf, linesOf}
 use Rattle.label.specs.Sound.{Sound, sound}
@@ -26,15 +27,6 @@ use Rattle.label.specs.Steps.{FeedAccepted, FeedDone, ReadAccepted}
 use Rattle.label.proofs.SoundLaws.{sound-right, right-sound, n-roots}
 
 -- ---- opening
-
--- three to the power of a rank, at most the bytes of a record
-pub bytes-few : (rank : ℕ) → rank ≤ 4 → 3 ^ rank ≤ 81
-bytes-few zero h = omega arith
-bytes-few (suc zero) h = omega arith
-bytes-few (suc (suc zero)) h = omega arith
-bytes-few (suc (suc (suc zero))) h = omega arith
-bytes-few (suc (suc (suc (suc zero)))) h = omega arith
-bytes-few (suc (suc (suc (suc (suc n))))) h = absurd (omega arith)
 
 module _ (shape structure ws : List ℕ) (none : 0 ≡ openCause shape structure (length ws)) where
   given : Allowed shape structure (length ws)
@@ -48,10 +40,10 @@ module _ (shape structure ws : List ℕ) (none : 0 ≡ openCause shape structure
   pub open-short : (length shape ≤ 4) × (length structure ≤ 81)
   open-short = let r = rank-right shape (given .ranked) .1 in (r, rw (given .bytes) (bytes-few (length shape) r))
 
-  pub accepted-open : OpenPromise shape structure ws 0 (openRecord shape structure) (openWords ws)
-  accepted-open = record {
-    said = none;
-    session = sym (kept-new blank (openRecord shape structure) (openCause shape structure (length ws)) (sym none));
+  pub accepted-open : (n : ℕ) → n ≡ 0 → (s : Session) → s ≡ openRecord shape structure → OpenPromise shape structure ws n s (openWords ws)
+  accepted-open n said s same = record {
+    said = said ∙ none;
+    session = same ∙ sym (kept-new blank (openRecord shape structure) (openCause shape structure (length ws)) (sym none));
     words = sym (kept-new ws (openWords ws) (openCause shape structure (length ws)) (sym none));
   }
 

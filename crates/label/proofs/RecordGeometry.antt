@@ -2,27 +2,24 @@
 -- Assumes nothing.
 use mathlib.Core.Path.{_≡_, refl, sym, ap, _∙_, subst}
 use mathlib.Core.Logic.{_≢_}
-use mathlib.Core.Bool.{Bool, true, false, _||_, true≢false}
+use mathlib.Core.Bool.{Bool, true, false, true≢false}
 use mathlib.Core.List.{List}
-use Prim.Native.Nat.{ℕ, _+_, _-_, _*_, _^_, _≤_, _<_}
+use Prim.Native.Nat.{ℕ, _+_, _-_, _*_, _≤_, _<_}
 use native.Mathlib.Nat.{mul-assoc, mul-le-mul-right}
 use native.Mathlib.Omega.{arith}
-use lib.Dec.{eqb, ltb}
 use lib.ListN.{length}
 use Rattle.groups.proofs.BoolLaws.{bool-same}
 use Rattle.frame.specs.Lists.{entries}
-use Rattle.frame.specs.Shape.{size, width, leading}
+use Rattle.frame.specs.Shape.{size, width}
 use Rattle.frame.specs.Structure.{leftOn}
 use Rattle.frame.specs.Memory.{stride, mostRuns, perLine, wordsNeeded}
 use Rattle.frame.specs.Kinds.{Number, largest}
-use Rattle.frame.specs.Causes.{badRank, hasZero, tooLarge}
-use Rattle.frame.proofs.EntryLaws.{length-entries}
+use Rattle.frame.specs.Causes.{badRank, tooLarge}
 use Rattle.frame.proofs.ShapeLaws.{size-lines}
-use Rattle.frame.proofs.CauseLaws.{rank-right}
 use Rattle.geo.specs.declared.Geo.{Geo}
-use Rattle.geo.specs.Geometry.{GeoReady, GeoOf}
-use Rattle.geo.proofs.DimsLaws.{bad-rank-is}
+use Rattle.geo.specs.Geometry.{GeoReady, GeoOf, ShapeSound, shapeSound}
 use Rattle.geo.proofs.GeoLaws.{within-limits}
+use Rattle.geo.proofs.ShapeSoundLaws.{array-ready, shape-sound-right, right-shape-sound}
 use Rattle.sound.specs.Stored.{wordsSound, PassReady}
 use Rattle.sound.proofs.StoredLaws.{words-right, right-words}
 use Rattle.label.specs.declared.Session.{Session}
@@ -31,51 +28,38 @@ use Rattle.label.specs.Sound.{Sound, sound}
 use Rattle.label.specs.Feeding.{feedCauseOf}
 use Rattle.label.specs.Reading.{readCauseOf}
 use Rattle.label.proofs.SoundLaws.{sound-right, right-sound, n-roots}
-use Rattle.label.proofs.AcceptedLaws.{bytes-few}
 use Rattle.label.proofs.CheckLaws.{feed-gets-7, feed-gets-8, feed-gets-none, read-gets-9, read-gets-10, read-gets-none}
 
 -- ---- what geo asks
 
-module _ (s : Session) where
-  -- the test of the record's rank is that of its shape
-  pub record-rank : (a b : Bool) → a ≡ (eqb (s .rank) 0 || ltb 4 (s .rank)) → a ≡ b → badRank (entries (s .rank) (s .shape)) ≡ b
-  record-rank a b is e = sym (bad-rank-is (entries (s .rank) (s .shape)) (s .rank) a (length-entries (s .rank) (s .shape)) is) ∙ e
+module _ (s : Session) (long : length (s .structure) ≡ 81) where
+  pub record-ready : badRank (shapeOf s) ≡ false → tooLarge (shapeOf s) ≡ false → GeoReady (s .rank) (s .shape) (s .structure)
+  unfolding shapeOf
+  record-ready ranked limits = array-ready (s .rank) (s .shape) (s .structure) long ranked limits
 
-  module _ (long : length (s .structure) ≡ 81) where
-    pub record-ready : badRank (entries (s .rank) (s .shape)) ≡ false → tooLarge (entries (s .rank) (s .shape)) ≡ false → GeoReady (s .rank) (s .shape) (s .structure)
-    record-ready ranked limits =
-        let few : s .rank ≤ 4 = omega (arith, rank-right (entries (s .rank) (s .shape)) ranked .1, length-entries (s .rank) (s .shape)) in
-        record { ranked = ranked; limits = limits; bytes = omega (arith, bytes-few (s .rank) few) }
-
-    pub sound-ready : (ws : List ℕ) → Sound s ws → GeoReady (s .rank) (s .shape) (s .structure)
-    unfolding shapeOf
-    sound-ready ws S = record-ready (S .ranked) (S .limits)
-
--- ---- when a record is not sound
+  pub sound-ready : (ws : List ℕ) → Sound s ws → GeoReady (s .rank) (s .shape) (s .structure)
+  sound-ready ws S = record-ready (S .ranked) (S .limits)
 
 module _ (s : Session) (ws : List ℕ) where
-  unsound : (Sound s ws → ⊥) → false ≡ sound s ws
-  unsound f = go (sound s ws) refl
+  -- ---- the clauses about shape and memory
+
+  -- those of a sound record hold
+  pub sound-shape : Sound s ws → shapeSound (s .rank) (s .shape) (s .structure) (length ws) (s .fed) ≡ true
+  unfolding shapeOf structureOf
+  sound-shape S = right-shape-sound _ _ _ _ _ (record { ranked = S .ranked; dimensions = S .dimensions; limits = S .limits; memory = S .memory; within = S .within })
+
+  -- so where they do not the record is not sound
+  pub unsound-shape : (t : Bool) → t ≡ shapeSound (s .rank) (s .shape) (s .structure) (length ws) (s .fed) → t ≡ false → false ≡ sound s ws
+  unsound-shape t is e = go (sound s ws) refl
     where
       go : (b : Bool) → sound s ws ≡ b → false ≡ sound s ws
-      go true e = absurd (f (sound-right s ws e))
-      go false e = sym e
+      go true h = absurd (true≢false (sym (sound-shape (sound-right s ws h)) ∙ sym is ∙ e))
+      go false h = sym h
 
-  pub unsound-rank : badRank (entries (s .rank) (s .shape)) ≡ true → false ≡ sound s ws
+  -- and where they do its size is allowed
+  pub shape-ready : (t : Bool) → t ≡ shapeSound (s .rank) (s .shape) (s .structure) (length ws) (s .fed) → t ≡ true → (badRank (shapeOf s) ≡ false) × (tooLarge (shapeOf s) ≡ false)
   unfolding shapeOf
-  unsound-rank bad = unsound (λ S. true≢false (sym bad ∙ S .ranked))
-
-  pub unsound-zero : (t : Bool) → t ≡ hasZero (leading (entries (s .rank) (s .shape))) → t ≡ true → false ≡ sound s ws
-  unfolding shapeOf
-  unsound-zero t is e = unsound (λ S. true≢false (sym e ∙ is ∙ S .dimensions))
-
-  pub unsound-large : (t : Bool) → t ≡ tooLarge (entries (s .rank) (s .shape)) → t ≡ true → false ≡ sound s ws
-  unfolding shapeOf
-  unsound-large t is e = unsound (λ S. true≢false (sym e ∙ is ∙ S .limits))
-
-  pub unsound-memory : (needed : ℕ) → needed ≡ wordsNeeded (entries (s .rank) (s .shape)) (entries (3 ^ s .rank) (s .structure)) → length ws < needed → false ≡ sound s ws
-  unfolding shapeOf structureOf
-  unsound-memory needed is h = unsound (λ S. omega (arith, S .memory))
+  shape-ready t is e = let A = shape-sound-right _ _ _ _ _ (sym is ∙ e) in (A .ranked, A .limits)
 
   -- ---- its geometry
 
@@ -92,13 +76,13 @@ module _ (s : Session) (ws : List ℕ) where
     unfolding shapeOf structureOf
     geo-left = K .left-is
 
-    pub unsound-fed : g .lines < s .fed → false ≡ sound s ws
-    unsound-fed h = unsound (λ S. omega (arith, S .within, geo-lines))
+    module _ (t : Bool) (is : t ≡ shapeSound (s .rank) (s .shape) (s .structure) (length ws) (s .fed)) (yes : t ≡ true) where
+      A : ShapeSound (s .rank) (s .shape) (s .structure) (length ws) (s .fed)
+      A = shape-sound-right _ _ _ _ _ (sym is ∙ yes)
 
-    module _ (A : GeoReady (s .rank) (s .shape) (s .structure)) (needed : ℕ) (is : needed ≡ wordsNeeded (entries (s .rank) (s .shape)) (entries (3 ^ s .rank) (s .structure))) (enough : needed ≤ length ws) (within : s .fed ≤ g .lines) where
       memory : wordsNeeded (shapeOf s) (structureOf s) ≤ length ws
       unfolding shapeOf structureOf
-      memory = omega (arith, is, enough)
+      memory = A .memory
 
       -- the words that the pass may read
       words-are : wordsNeeded (shapeOf s) (structureOf s) ≡ g .lines + 1 + stride * (g .lines * mostRuns (g .left) (g .width))
@@ -108,22 +92,22 @@ module _ (s : Session) (ws : List ℕ) where
       pub pass-ready : PassReady (g .lines) (g .width) (g .left) (s .fed) ws
       pass-ready =
           record {
-            within = within;
+            within = omega (arith, A .within, K .lines-is);
             memory = omega (arith, words-are, memory);
             short = omega (arith, K .width-is, within-limits (entries (s .rank) (s .shape)) (A .limits) .0);
           }
 
       -- and what is left to test
-      pub sound-words : hasZero (leading (entries (s .rank) (s .shape))) ≡ false → (r : Bool) → r ≡ wordsSound (g .lines) (g .width) (g .left) (s .fed) (s .runs) (s .joins) ws → r ≡ sound s ws
-      sound-words none r e = bool-same r (sound s ws) (λ t. right-sound s ws (all t)) (λ t. e ∙ rw (geo-lines, geo-width, geo-left) (right-words _ _ _ _ _ _ ws (sound-right s ws t .words)))
+      pub sound-words : (r : Bool) → r ≡ wordsSound (g .lines) (g .width) (g .left) (s .fed) (s .runs) (s .joins) ws → r ≡ sound s ws
+      sound-words r e = bool-same r (sound s ws) (λ t. right-sound s ws (all t)) (λ t. e ∙ rw (geo-lines, geo-width, geo-left) (right-words _ _ _ _ _ _ ws (sound-right s ws t .words)))
         where
           all : r ≡ true → Sound s ws
           all t = record {
             ranked = unfold shapeOf in A .ranked;
-            dimensions = unfold shapeOf in none;
+            dimensions = unfold shapeOf in A .dimensions;
             limits = unfold shapeOf in A .limits;
             memory = memory;
-            within = subst (λ (n : ℕ). s .fed ≤ n) geo-lines within;
+            within = unfold shapeOf in A .within;
             words = words-right _ _ _ _ _ _ ws (rw (← geo-lines, ← geo-width, ← geo-left) (sym e ∙ t));
           }
 

@@ -12,13 +12,16 @@
 // A call is a check and then the work: feed_check, read_check and sizes_check find the cause, and feed_sound_T, read_sound_T and
 // sizes_sound work on a record that is known to be sound.
 ghost use mathlib.Core.Path.{_≡_};
-ghost use mathlib.Core.Bool.{Bool};
+ghost use mathlib.Core.Bool.{Bool, false};
 ghost use mathlib.Core.List.{List, map};
 ghost use Prim.Native.Nat.{ℕ, _-_, _≤_};
+ghost use lib.Dec.{ltb};
 ghost use lib.ListN.{length};
-ghost use Rattle.frame.specs.Causes.{openCause};
+ghost use Rattle.frame.specs.Causes.{openCause, badRank, tooLarge};
 ghost use Rattle.frame.specs.Kinds.{nz, nzℤ, nzF, Number, u8, u16, u32, largest};
-ghost use Rattle.frame.specs.Plain.{fed, counted};
+ghost use Rattle.frame.specs.Plain.{fed, counted, unless};
+ghost use Rattle.geo.specs.Geometry.{GeoOf};
+ghost use Rattle.label.specs.Record.{shapeOf};
 ghost use Rattle.label.specs.Cases.{causeNumber, openNumber, checkNumber, feedAnswer, readAnswer};
 ghost use Rattle.label.specs.Sound.{Sound, sound};
 ghost use Rattle.label.specs.Held.{figuresOf, rootCount, numbersHeld, sizesHeld};
@@ -124,6 +127,17 @@ pub enum Check {
     Failed(Cause),
 }
 
+impl Check {
+    fn failed(self) -> bool
+        ensures { λ r. ⌜ r ≡ ltb 0 (checkNumber self) ⌝ }
+    {
+        match self {
+            Check::Passed => false,
+            Check::Failed(_) => true,
+        }
+    }
+}
+
 // ---- opening
 
 impl Session {
@@ -131,20 +145,23 @@ impl Session {
     pub fn open(shape: &[usize], structure: &[u8], words: &mut [u32]) -> Opened
         ensures { λ r. ⌜ OpenPromise (now (shape .entry)) (now (structure .entry)) (now (words .entry)) (openNumber (r .answer)) (r .session) (now (words .exit)) ⌝ }
     {
-        match open_check(shape, structure, words.len()) {
-            Check::Failed(cause) => Opened {
-                answer: OpenAnswer::Refused(cause),
-                session: blank_record(),
-            },
-            Check::Passed => {
-                words[0] = 0;
-                Opened {
-                    answer: OpenAnswer::Accepted,
-                    session: open_record(shape, structure),
-                }
-            }
+        let check = open_check(shape, structure, words.len());
+        if check.failed() {
+            return answer_open(blank_record(), check);
         }
+        words[0] = 0;
+        answer_open(open_record(shape, structure), check)
     }
+}
+
+fn answer_open(session: Session, check: Check) -> Opened
+    ensures { λ r. ⌜ (r .session ≡ session) × (openNumber (r .answer) ≡ checkNumber check) ⌝ }
+{
+    let answer = match check {
+        Check::Failed(cause) => OpenAnswer::Refused(cause),
+        Check::Passed => OpenAnswer::Accepted,
+    };
+    Opened { answer, session }
 }
 
 // 1 to 5, where `memory` is the count of words: the cause that an opening would have.
@@ -203,26 +220,28 @@ fn blank_record() -> Session
 // ---- soundness
 
 impl Session {
+    // Leading dimensions, lines, width and left byte.
+    fn geometry(self) -> geo::Geo
+        requires { ⌜ (badRank (shapeOf self) ≡ false) × (tooLarge (shapeOf self) ≡ false) ⌝ }
+        ensures { λ g. ⌜ GeoOf (self .rank) (self .shape) (self .structure) g ⌝ }
+    {
+        geo::geo_of(self.rank, self.shape, &self.structure)
+    }
+
     // Whether the record is sound with these words, whatever both hold.
     fn is_sound(self, words: &[u32]) -> bool
         ensures { λ r. ⌜ r ≡ sound self (now (words .entry)) ⌝ }
     {
-        if geo::bad_rank(self.rank) {
+        if !geo::shape_sound(
+            self.rank,
+            self.shape,
+            &self.structure,
+            words.len(),
+            self.fed,
+        ) {
             return false;
         }
-        if geo::has_zero(self.rank, self.shape) {
-            return false;
-        }
-        if geo::too_large(self.rank, self.shape) {
-            return false;
-        }
-        if words.len() < geo::words_needed(self.rank, self.shape, &self.structure) {
-            return false;
-        }
-        let g = geo::geo_of(self.rank, self.shape, &self.structure);
-        if self.fed > g.lines {
-            return false;
-        }
+        let g = self.geometry();
         sound::words_sound(
             words,
             g.lines,
@@ -245,7 +264,7 @@ impl Session {
         if !self.is_sound(words) {
             return Check::Failed(Cause::Unsound);
         }
-        let g = geo::geo_of(self.rank, self.shape, &self.structure);
+        let g = self.geometry();
         if k > g.lines - self.fed {
             return Check::Failed(Cause::Lines);
         }
@@ -261,49 +280,41 @@ impl Session {
     pub fn feed_u8(self, words: &mut [u32], k: usize, cells: &[u8]) -> Fed
         ensures { λ r. ⌜ FeedPromise self (now (words .entry)) k (map nz (now (cells .entry))) (feedAnswer (r .answer)) (r .session) (now (words .exit)) ⌝ }
     {
-        match self.feed_check(words, k, cells.len()) {
-            Check::Failed(cause) => Fed {
-                answer: FeedAnswer::Refused(cause),
-                session: self,
-            },
-            Check::Passed => accept_feed(self.feed_sound_u8(words, k, cells)),
+        let check = self.feed_check(words, k, cells.len());
+        if check.failed() {
+            return answer_feed(self, check);
         }
+        answer_feed(self.feed_sound_u8(words, k, cells), check)
     }
 
     pub fn feed_u16(self, words: &mut [u32], k: usize, cells: &[u16]) -> Fed
         ensures { λ r. ⌜ FeedPromise self (now (words .entry)) k (map nz (now (cells .entry))) (feedAnswer (r .answer)) (r .session) (now (words .exit)) ⌝ }
     {
-        match self.feed_check(words, k, cells.len()) {
-            Check::Failed(cause) => Fed {
-                answer: FeedAnswer::Refused(cause),
-                session: self,
-            },
-            Check::Passed => accept_feed(self.feed_sound_u16(words, k, cells)),
+        let check = self.feed_check(words, k, cells.len());
+        if check.failed() {
+            return answer_feed(self, check);
         }
+        answer_feed(self.feed_sound_u16(words, k, cells), check)
     }
 
     pub fn feed_i16(self, words: &mut [u32], k: usize, cells: &[i16]) -> Fed
         ensures { λ r. ⌜ FeedPromise self (now (words .entry)) k (map nzℤ (now (cells .entry))) (feedAnswer (r .answer)) (r .session) (now (words .exit)) ⌝ }
     {
-        match self.feed_check(words, k, cells.len()) {
-            Check::Failed(cause) => Fed {
-                answer: FeedAnswer::Refused(cause),
-                session: self,
-            },
-            Check::Passed => accept_feed(self.feed_sound_i16(words, k, cells)),
+        let check = self.feed_check(words, k, cells.len());
+        if check.failed() {
+            return answer_feed(self, check);
         }
+        answer_feed(self.feed_sound_i16(words, k, cells), check)
     }
 
     pub fn feed_f32(self, words: &mut [u32], k: usize, cells: &[f32]) -> Fed
         ensures { λ r. ⌜ FeedPromise self (now (words .entry)) k (map nzF (now (cells .entry))) (feedAnswer (r .answer)) (r .session) (now (words .exit)) ⌝ }
     {
-        match self.feed_check(words, k, cells.len()) {
-            Check::Failed(cause) => Fed {
-                answer: FeedAnswer::Refused(cause),
-                session: self,
-            },
-            Check::Passed => accept_feed(self.feed_sound_f32(words, k, cells)),
+        let check = self.feed_check(words, k, cells.len());
+        if check.failed() {
+            return answer_feed(self, check);
         }
+        answer_feed(self.feed_sound_f32(words, k, cells), check)
     }
 }
 
@@ -313,7 +324,7 @@ impl Session {
         requires { ⌜ FeedAccepted self (now words) k (map nz (now cells)) ⌝ }
         ensures { λ r. ⌜ FeedDone self (now (words .entry)) k (map nz (now (cells .entry))) r (now (words .exit)) ⌝ }
     {
-        let g = geo::geo_of(self.rank, self.shape, &self.structure);
+        let g = self.geometry();
         let runs = block::extract_block_u8(
             cells,
             g.width,
@@ -331,7 +342,7 @@ impl Session {
         requires { ⌜ FeedAccepted self (now words) k (map nz (now cells)) ⌝ }
         ensures { λ r. ⌜ FeedDone self (now (words .entry)) k (map nz (now (cells .entry))) r (now (words .exit)) ⌝ }
     {
-        let g = geo::geo_of(self.rank, self.shape, &self.structure);
+        let g = self.geometry();
         let runs = block::extract_block_u16(
             cells,
             g.width,
@@ -349,7 +360,7 @@ impl Session {
         requires { ⌜ FeedAccepted self (now words) k (map nzℤ (now cells)) ⌝ }
         ensures { λ r. ⌜ FeedDone self (now (words .entry)) k (map nzℤ (now (cells .entry))) r (now (words .exit)) ⌝ }
     {
-        let g = geo::geo_of(self.rank, self.shape, &self.structure);
+        let g = self.geometry();
         let runs = block::extract_block_i16(
             cells,
             g.width,
@@ -367,7 +378,7 @@ impl Session {
         requires { ⌜ FeedAccepted self (now words) k (map nzF (now cells)) ⌝ }
         ensures { λ r. ⌜ FeedDone self (now (words .entry)) k (map nzF (now (cells .entry))) r (now (words .exit)) ⌝ }
     {
-        let g = geo::geo_of(self.rank, self.shape, &self.structure);
+        let g = self.geometry();
         let runs = block::extract_block_f32(
             cells,
             g.width,
@@ -386,7 +397,7 @@ impl Session {
         requires { ⌜ SomeExtracted self k (now words) runs ⌝ }
         ensures { λ r. ⌜ ((ws : List ℕ) (cells : List Bool) → FeedExtracted self ws k cells (now (words .entry)) runs → FeedDone self ws k cells r (now (words .exit))) ⌝ }
     {
-        let g = geo::geo_of(self.rank, self.shape, &self.structure);
+        let g = self.geometry();
         let dims = g.dims;
         let joins = block::union_block(words, g.lines, dims, g.n, &self.structure, self.fed, k);
         let mut s = self;
@@ -397,18 +408,19 @@ impl Session {
     }
 }
 
-// A feed that was accepted answers the record's figures.
-fn accept_feed(session: Session) -> Fed
-    ensures { λ r. ⌜ (r .session ≡ session) × (feedAnswer (r .answer) ≡ fed (session .fed) (figuresOf session)) ⌝ }
+// A feed that was accepted answers the record's figures, and any other its cause.
+fn answer_feed(session: Session, check: Check) -> Fed
+    ensures { λ r. ⌜ (r .session ≡ session) × (feedAnswer (r .answer) ≡ unless (checkNumber check) (fed (session .fed) (figuresOf session))) ⌝ }
 {
-    Fed {
-        answer: FeedAnswer::Accepted {
+    let answer = match check {
+        Check::Failed(cause) => FeedAnswer::Refused(cause),
+        Check::Passed => FeedAnswer::Accepted {
             lines: session.fed,
             runs: session.runs,
             joins: session.joins,
         },
-        session,
-    }
+    };
+    Fed { answer, session }
 }
 
 // ---- reading
@@ -421,7 +433,7 @@ impl Session {
         if !self.is_sound(words) {
             return Check::Failed(Cause::Unsound);
         }
-        let g = geo::geo_of(self.rank, self.shape, &self.structure);
+        let g = self.geometry();
         if places != g.lines * g.width {
             return Check::Failed(Cause::Length);
         }
@@ -437,46 +449,34 @@ impl Session {
     pub fn read_u8(self, words: &mut [u32], out: &mut [u8]) -> Read
         ensures { λ r. ⌜ ReadPromise u8 self (now (words .entry)) (now (out .entry)) (readAnswer (r .answer)) (r .session) (now (words .exit)) (now (out .exit)) ⌝ }
     {
-        match self.read_check(words, out.len(), write::LabelU8::MAXV) {
-            Check::Failed(cause) => Read {
-                answer: ReadAnswer::Refused(cause),
-                session: self,
-            },
-            Check::Passed => {
-                self.read_sound_u8(words, out);
-                accept_read(self)
-            }
+        let check = self.read_check(words, out.len(), write::LabelU8::MAXV);
+        if check.failed() {
+            return answer_read(self, check);
         }
+        self.read_sound_u8(words, out);
+        answer_read(self, check)
     }
 
     pub fn read_u16(self, words: &mut [u32], out: &mut [u16]) -> Read
         ensures { λ r. ⌜ ReadPromise u16 self (now (words .entry)) (now (out .entry)) (readAnswer (r .answer)) (r .session) (now (words .exit)) (now (out .exit)) ⌝ }
     {
-        match self.read_check(words, out.len(), write::LabelU16::MAXV) {
-            Check::Failed(cause) => Read {
-                answer: ReadAnswer::Refused(cause),
-                session: self,
-            },
-            Check::Passed => {
-                self.read_sound_u16(words, out);
-                accept_read(self)
-            }
+        let check = self.read_check(words, out.len(), write::LabelU16::MAXV);
+        if check.failed() {
+            return answer_read(self, check);
         }
+        self.read_sound_u16(words, out);
+        answer_read(self, check)
     }
 
     pub fn read_u32(self, words: &mut [u32], out: &mut [u32]) -> Read
         ensures { λ r. ⌜ ReadPromise u32 self (now (words .entry)) (now (out .entry)) (readAnswer (r .answer)) (r .session) (now (words .exit)) (now (out .exit)) ⌝ }
     {
-        match self.read_check(words, out.len(), write::LabelU32::MAXV) {
-            Check::Failed(cause) => Read {
-                answer: ReadAnswer::Refused(cause),
-                session: self,
-            },
-            Check::Passed => {
-                self.read_sound_u32(words, out);
-                accept_read(self)
-            }
+        let check = self.read_check(words, out.len(), write::LabelU32::MAXV);
+        if check.failed() {
+            return answer_read(self, check);
         }
+        self.read_sound_u32(words, out);
+        answer_read(self, check)
     }
 }
 
@@ -486,7 +486,7 @@ impl Session {
         requires { ⌜ ReadAccepted u8 self (now words) (length (now out)) ⌝ }
         ensures { λ _. ⌜ (now (words .exit) ≡ withNames self (now (words .entry))) × (now (out .exit) ≡ numbersHeld self (now (words .entry)) u8) ⌝ }
     {
-        let g = geo::geo_of(self.rank, self.shape, &self.structure);
+        let g = self.geometry();
         write::write_block_u8(words, g.lines, g.width, self.fed, out)
     }
 
@@ -494,7 +494,7 @@ impl Session {
         requires { ⌜ ReadAccepted u16 self (now words) (length (now out)) ⌝ }
         ensures { λ _. ⌜ (now (words .exit) ≡ withNames self (now (words .entry))) × (now (out .exit) ≡ numbersHeld self (now (words .entry)) u16) ⌝ }
     {
-        let g = geo::geo_of(self.rank, self.shape, &self.structure);
+        let g = self.geometry();
         write::write_block_u16(words, g.lines, g.width, self.fed, out)
     }
 
@@ -502,24 +502,25 @@ impl Session {
         requires { ⌜ ReadAccepted u32 self (now words) (length (now out)) ⌝ }
         ensures { λ _. ⌜ (now (words .exit) ≡ withNames self (now (words .entry))) × (now (out .exit) ≡ numbersHeld self (now (words .entry)) u32) ⌝ }
     {
-        let g = geo::geo_of(self.rank, self.shape, &self.structure);
+        let g = self.geometry();
         write::write_block_u32(words, g.lines, g.width, self.fed, out)
     }
 }
 
-// A reading or a size call that was accepted answers n, and the record's figures.
-fn accept_read(session: Session) -> Read
-    requires { ⌜ session .joins ≤ session .runs ⌝ }
-    ensures { λ r. ⌜ (r .session ≡ session) × (readAnswer (r .answer) ≡ counted (session .runs - session .joins) (figuresOf session)) ⌝ }
+// A reading or a size call that was accepted answers n and the record's figures, and any other its cause.
+fn answer_read(session: Session, check: Check) -> Read
+    requires { ⌜ (checkNumber check ≡ 0 → session .joins ≤ session .runs) ⌝ }
+    ensures { λ r. ⌜ (r .session ≡ session) × (readAnswer (r .answer) ≡ unless (checkNumber check) (counted (session .runs - session .joins) (figuresOf session))) ⌝ }
 {
-    Read {
-        answer: ReadAnswer::Accepted {
+    let answer = match check {
+        Check::Failed(cause) => ReadAnswer::Refused(cause),
+        Check::Passed => ReadAnswer::Accepted {
             n: session.runs - session.joins,
             runs: session.runs,
             joins: session.joins,
         },
-        session,
-    }
+    };
+    Read { answer, session }
 }
 
 // ---- sizes
@@ -541,23 +542,19 @@ impl Session {
     pub fn sizes(self, words: &mut [u32], sizes: &mut [u32]) -> Read
         ensures { λ r. ⌜ SizesPromise self (now (words .entry)) (now (sizes .entry)) (readAnswer (r .answer)) (r .session) (now (words .exit)) (now (sizes .exit)) ⌝ }
     {
-        match self.sizes_check(words, sizes.len()) {
-            Check::Failed(cause) => Read {
-                answer: ReadAnswer::Refused(cause),
-                session: self,
-            },
-            Check::Passed => {
-                self.sizes_sound(words, sizes);
-                accept_read(self)
-            }
+        let check = self.sizes_check(words, sizes.len());
+        if check.failed() {
+            return answer_read(self, check);
         }
+        self.sizes_sound(words, sizes);
+        answer_read(self, check)
     }
 
     fn sizes_sound(self, words: &mut [u32], sizes: &mut [u32])
         requires { ⌜ Sound self (now words) × (length (now sizes) ≡ rootCount self (now words)) ⌝ }
         ensures { λ _. ⌜ (now (words .exit) ≡ withNames self (now (words .entry))) × (now (sizes .exit) ≡ sizesHeld self (now (words .entry))) ⌝ }
     {
-        let g = geo::geo_of(self.rank, self.shape, &self.structure);
+        let g = self.geometry();
         write::size_block(words, g.lines, self.runs, sizes)
     }
 }

@@ -8,9 +8,9 @@ use lib.ListN.{length}
 use Rattle.frame.specs.Shape.{size, width, lines}
 use Rattle.frame.specs.Kinds.{Number, largest, Value}
 use Rattle.frame.specs.Plain.{counted, refused}
+use Rattle.frame.proofs.PlainLaws.{unless-some}
 use Rattle.write.specs.Writes.{WriteReady, LinesWritten}
 use Rattle.label.specs.declared.Session.{Session}
-use Rattle.label.specs.declared.Cause.the-variants as C
 use Rattle.label.specs.Record.{shapeOf, linesOf}
 use Rattle.label.specs.Held.{figuresOf}
 use Rattle.label.specs.Reading.{readCauseOf, ReadPromise}
@@ -53,7 +53,7 @@ module _ (s : Session) (f : Filled) (ws : List ℕ) where
 
   module _ (kind : Number) (out : List (Value kind)) (F : FilledFrame s f ws (length out)) where
     pub number-ten : largest kind < f .runs - f .joins → ReadPromise kind t ws out (refused 10) t ws out
-    number-ten h = refused-read C.Kind kind t ws out (read-gets-10 kind t ws (length out) (right-sound t ws (F .is-sound)) (exact (length out) F) (omega (arith, h, n-roots t ws (F .is-sound))))
+    number-ten h = refused-read kind t ws out 10 (read-gets-10 kind t ws (length out) (right-sound t ws (F .is-sound)) (exact (length out) F) (omega (arith, h, n-roots t ws (F .is-sound)))) (omega arith) (refused 10) (refused 10) (sym (unless-some 10 9 (refused 10) refl)) t refl
 
     pub number-done : f .runs - f .joins ≤ largest kind → (ws′ out′ : List ℕ) → LinesWritten (f .lines) (f .width) (f .lines) ws ws′ out out′
         → ReadPromise kind t ws out (counted (f .runs - f .joins) (record { runs = f .runs; joins = f .joins })) t ws′ out′

@@ -1,34 +1,25 @@
 -- `feed_u16` meets its promise: it is refused with the number that its check finds, and else fed.
 -- Assumes nothing.
-use mathlib.Core.Path.{sym, ap, _∙_}
+use mathlib.Core.Path.{sym, _∙_}
 use mathlib.Core.List.{map}
 use borrow.Author.Needs.{needs}
 use denote.Ref.{now}
 use lib.ListN.{length-map}
 use Rattle.frame.specs.Kinds.{nz}
-use Rattle.label.specs.Cases.{checkNumber}
+use Rattle.frame.proofs.PlainLaws.{unless-none}
 use Rattle.label.proofs.AcceptedLaws.{cause-accepted, done-promise}
-use Rattle.label.proofs.RefusedLaws.{refused-feed}
+use Rattle.label.proofs.RefusedLaws.{failed-some, passed-none, refused-feed}
 use Rattle.label.proofs.Session.feed_u16.Statement.{statement}
 use Rattle.label.proofs.Session.feed_u16.Tie as tie
 
 feed-check-requires : tie.Need-feed-check-requires
 feed-check-requires c κs = search needs
 
-enum-known-cause : tie.Need-enum-known-cause
-enum-known-cause c = search needs
+failed-requires : tie.Need-failed-requires
+failed-requires c κs = search needs
 
-enum-told : tie.Need-enum-told
-enum-told c = search needs
-
-feed-sound-u16-requires : tie.Need-feed-sound-u16-requires
-feed-sound-u16-requires c κs =
-    let s = c .before .before .before .before .before .before .before .args in
-    let cells = map nz (now (s .cells)) in
-    cause-accepted (s .self) (now (s .words)) (s .k) cells (sym (c .before .before .before .feed-check .ensures cells (length-map (now (s .cells)) nz)) ∙ ap checkNumber (c .before .enum-told .given .1))
-
-accept-feed-requires : tie.Need-accept-feed-requires
-accept-feed-requires c κs = search needs
+answer-feed-requires : tie.Need-answer-feed-requires
+answer-feed-requires c κs = search needs
 
 same-length : tie.Need-same-length
 same-length c = search needs
@@ -37,7 +28,18 @@ returns : tie.Need-returns
 returns c =
     let s = c .before .before .before .before .before .before .before .args in
     let cells = map nz (now (s .cells)) in
-    refused-feed (c .before .cause .given .0 .0) (s .self) (now (s .words)) (s .k) cells (ap checkNumber (sym (c .before .cause .given .1)) ∙ c .before .before .before .feed-check .ensures cells (length-map (now (s .cells)) nz))
+    let some = failed-some _ _ (c .before .before .failed .ensures) (c .before .if1 .taken) in
+    refused-feed (s .self) (now (s .words)) (s .k) cells _ (c .before .before .before .feed-check .ensures cells (length-map (now (s .cells)) nz)) some _ _ (c .answer-feed .ensures .1) _ (c .answer-feed .ensures .0)
+
+feed-sound-u16-requires : tie.Need-feed-sound-u16-requires
+feed-sound-u16-requires c κs =
+    let s = c .before .before .before .before .before .before .before .args in
+    let cells = map nz (now (s .cells)) in
+    let none = passed-none _ _ (c .before .before .failed .ensures) (c .before .if1 .left) in
+    cause-accepted (s .self) (now (s .words)) (s .k) cells (sym (c .before .before .before .feed-check .ensures cells (length-map (now (s .cells)) nz)) ∙ none)
+
+answer-feed-requires-2 : tie.Need-answer-feed-requires-2
+answer-feed-requires-2 c κs = search needs
 
 same-length-2 : tie.Need-same-length-2
 same-length-2 c = search needs
@@ -46,20 +48,21 @@ returns-2 : tie.Need-returns-2
 returns-2 c =
     let s = c .before .before .before .before .before .before .before .before .before .before .before .args in
     let cells = map nz (now (s .cells)) in
-    let none = sym (c .before .before .before .before .before .before .before .feed-check .ensures cells (length-map (now (s .cells)) nz)) ∙ ap checkNumber (c .before .before .before .before .before .enum-told .given .1) in
+    let none = passed-none _ _ (c .before .before .before .before .before .before .failed .ensures) (c .before .before .before .before .before .if1 .left) in
+    let given = cause-accepted (s .self) (now (s .words)) (s .k) cells (sym (c .before .before .before .before .before .before .before .feed-check .ensures cells (length-map (now (s .cells)) nz)) ∙ none) in
     let f = c .before .before .before .feed-sound-u16 in
-    done-promise (s .self) (now (s .words)) (s .k) cells (cause-accepted (s .self) (now (s .words)) (s .k) cells none) (f .result) (f .last .1 .0) (f .ensures) _ (c .accept-feed .ensures .1) _ (c .accept-feed .ensures .0)
+    done-promise (s .self) (now (s .words)) (s .k) cells given (f .result) (f .last .1 .0) (f .ensures) _ (c .answer-feed2 .ensures .1 ∙ unless-none _ _ none) _ (c .answer-feed2 .ensures .0)
 
 pub feed-u16-spec : {M : Type 1} → statement M
 feed-u16-spec =
     tie.close
     (tie.spec
     feed-check-requires
-    enum-known-cause
-    enum-told
-    feed-sound-u16-requires
-    accept-feed-requires
+    failed-requires
+    answer-feed-requires
     same-length
     returns
+    feed-sound-u16-requires
+    answer-feed-requires-2
     same-length-2
     returns-2)

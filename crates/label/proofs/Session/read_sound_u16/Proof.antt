@@ -5,18 +5,17 @@ use borrow.Author.Needs.{needs}
 use denote.Ref.{now}
 use lib.ListN.{length}
 use Rattle.frame.specs.Kinds.{u16}
-use Rattle.label.proofs.RecordGeometry.{sound-ready}
 use Rattle.label.proofs.WrittenNumbers.{read-ready, read-done}
 use Rattle.label.proofs.Session.read_sound_u16.Statement.{statement}
 use Rattle.label.proofs.Session.read_sound_u16.Tie as tie
 
-geo-of-requires : tie.Need-geo-of-requires
-geo-of-requires c κs = sound-ready (c .before .before .before .before .before .before .args .t1) (search needs) (now (c .before .before .before .before .before .before .args .words)) (c .before .before .before .before .before .before .pre .is-sound)
+geometry-requires : tie.Need-geometry-requires
+geometry-requires c κs = (c .before .before .pre .is-sound .ranked, c .before .before .pre .is-sound .limits)
 
 write-block-u16-requires : tie.Need-write-block-u16-requires
 write-block-u16-requires c κs =
-    let s = c .before .before .before .before .before .before .before .before .before in
-    read-ready u16 (s .args .t1) (now (s .args .words)) (length (now (s .args .out))) (s .pre) (c .before .before .geo-of .result) (c .before .before .geo-of .ensures)
+    let s = c .before .before .before .before .before in
+    read-ready u16 (s .args .self) (now (s .args .words)) (length (now (s .args .out))) (s .pre) (c .before .before .geometry .result) (c .before .before .geometry .ensures)
 
 same-length : tie.Need-same-length
 same-length c = search needs
@@ -26,9 +25,9 @@ same-length-2 c = search needs
 
 returns : tie.Need-returns
 returns c =
-    let s = c .before .before .before .before .before .before .before .before .before .before .before .before .before .before in
+    let s = c .before .before .before .before .before .before .before .before .before .before in
     let w = c .before .before .before .before .write-block-u16 in
-    read-done u16 (s .args .t1) (now (s .args .words)) (length (now (s .args .out))) (s .pre) (c .before .before .before .before .before .before .before .geo-of .result) (c .before .before .before .before .before .before .before .geo-of .ensures) (w .last .0) (now (s .args .out)) (w .last .1 .1 .1 .1 .0) refl (w .ensures)
+    read-done u16 (s .args .self) (now (s .args .words)) (length (now (s .args .out))) (s .pre) (c .before .before .before .before .before .before .before .geometry .result) (c .before .before .before .before .before .before .before .geometry .ensures) (w .last .0) (now (s .args .out)) (w .last .1 .1 .1 .1 .0) refl (w .ensures)
 
 pub read-sound-u16-spec : {M : Type 1} → statement M
-read-sound-u16-spec = tie.close (tie.spec geo-of-requires write-block-u16-requires same-length same-length-2 returns)
+read-sound-u16-spec = tie.close (tie.spec geometry-requires write-block-u16-requires same-length same-length-2 returns)

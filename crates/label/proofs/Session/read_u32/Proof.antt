@@ -1,14 +1,14 @@
 -- `read_u32` meets its promise: it is refused with the number that its check finds, and else read.
 -- Assumes nothing.
-use mathlib.Core.Path.{_≡_, refl, sym, ap, _∙_}
+use mathlib.Core.Path.{_≡_, refl, sym, _∙_}
 use Prim.Native.Nat.{ℕ}
 use borrow.Author.Needs.{needs}
 use denote.Ref.{now}
 use lib.ListN.{length}
 use Rattle.frame.specs.Kinds.{u32, largest}
-use Rattle.label.specs.Cases.{checkNumber}
+use Rattle.frame.proofs.PlainLaws.{unless-none}
 use Rattle.label.proofs.AcceptedLaws.{cause-read, read-promise}
-use Rattle.label.proofs.RefusedLaws.{refused-read}
+use Rattle.label.proofs.RefusedLaws.{failed-some, failed-never, passed-none, refused-read}
 use Rattle.label.proofs.FitLaws.{joins-fit}
 use Rattle.label.proofs.Session.read_u32.Statement.{statement}
 use Rattle.label.proofs.Session.read_u32.Tie as tie
@@ -21,21 +21,11 @@ most = refl
 read-check-requires : tie.Need-read-check-requires
 read-check-requires c κs = search needs
 
-enum-known-cause : tie.Need-enum-known-cause
-enum-known-cause c = search needs
+failed-requires : tie.Need-failed-requires
+failed-requires c κs = search needs
 
-enum-told : tie.Need-enum-told
-enum-told c = search needs
-
-read-sound-u32-requires : tie.Need-read-sound-u32-requires
-read-sound-u32-requires c κs =
-    let s = c .before .before .before .before .before .before .before .before .args in
-    cause-read u32 (s .self) (now (s .words)) (length (now (s .out))) (sym (c .before .before .before .before .read-check .ensures u32 most) ∙ ap checkNumber (c .before .before .enum-told .given .1))
-
-accept-read-requires : tie.Need-accept-read-requires
-accept-read-requires c κs =
-    let s = c .before .before .before .before .before .before .before .before .before .before .before .before .before .args in
-    joins-fit (s .self) (now (s .words)) (cause-read u32 (s .self) (now (s .words)) (length (now (s .out))) (sym (c .before .before .before .before .before .before .before .before .before .read-check .ensures u32 most) ∙ ap checkNumber (c .before .before .before .before .before .before .before .enum-told .given .1)) .is-sound)
+answer-read-requires : tie.Need-answer-read-requires
+answer-read-requires c κs none = absurd (failed-never _ _ (c .before .failed .ensures) (c .if1 .taken) none)
 
 same-length : tie.Need-same-length
 same-length c = search needs
@@ -43,7 +33,19 @@ same-length c = search needs
 returns : tie.Need-returns
 returns c =
     let s = c .before .before .before .before .before .before .before .args in
-    refused-read (c .before .cause .given .0 .0) u32 (s .self) (now (s .words)) (now (s .out)) (ap checkNumber (sym (c .before .cause .given .1)) ∙ c .before .before .before .read-check .ensures u32 most)
+    let some = failed-some _ _ (c .before .before .failed .ensures) (c .before .if1 .taken) in
+    refused-read u32 (s .self) (now (s .words)) (now (s .out)) _ (c .before .before .before .read-check .ensures u32 most) some _ _ (c .answer-read .ensures .1) _ (c .answer-read .ensures .0)
+
+read-sound-u32-requires : tie.Need-read-sound-u32-requires
+read-sound-u32-requires c κs =
+    let s = c .before .before .before .before .before .before .before .before .args in
+    let none = passed-none _ _ (c .before .before .before .failed .ensures) (c .before .before .if1 .left) in
+    cause-read u32 (s .self) (now (s .words)) (length (now (s .out))) (sym (c .before .before .before .before .read-check .ensures u32 most) ∙ none)
+
+answer-read-requires-2 : tie.Need-answer-read-requires-2
+answer-read-requires-2 c κs none =
+    let s = c .before .before .before .before .before .before .before .before .before .before .before .before .before .args in
+    joins-fit (s .self) (now (s .words)) (cause-read u32 (s .self) (now (s .words)) (length (now (s .out))) (sym (c .before .before .before .before .before .before .before .before .before .read-check .ensures u32 most) ∙ none) .is-sound)
 
 same-length-2 : tie.Need-same-length-2
 same-length-2 c = search needs
@@ -54,21 +56,21 @@ same-length-3 c = search needs
 returns-2 : tie.Need-returns-2
 returns-2 c =
     let s = c .before .before .before .before .before .before .before .before .before .before .before .before .before .before .args in
-    let none = sym (c .before .before .before .before .before .before .before .before .before .before .read-check .ensures u32 most) ∙ ap checkNumber (c .before .before .before .before .before .before .before .before .enum-told .given .1) in
+    let none = passed-none _ _ (c .before .before .before .before .before .before .before .before .before .failed .ensures) (c .before .before .before .before .before .before .before .before .if1 .left) in
     let w = c .before .before .before .before .before .read-sound-u32 in
-    read-promise u32 (s .self) (now (s .words)) (now (s .out)) none (w .last .1 .0) (w .last .1 .1 .0) (w .ensures) _ (c .accept-read .ensures .1) _ (c .accept-read .ensures .0)
+    read-promise u32 (s .self) (now (s .words)) (now (s .out)) (sym (c .before .before .before .before .before .before .before .before .before .before .read-check .ensures u32 most) ∙ none) (w .last .1 .0) (w .last .1 .1 .0) (w .ensures) _ (c .answer-read2 .ensures .1 ∙ unless-none _ _ none) _ (c .answer-read2 .ensures .0)
 
 pub read-u32-spec : {M : Type 1} → statement M
 read-u32-spec =
     tie.close
     (tie.spec
     read-check-requires
-    enum-known-cause
-    enum-told
-    read-sound-u32-requires
-    accept-read-requires
+    failed-requires
+    answer-read-requires
     same-length
     returns
+    read-sound-u32-requires
+    answer-read-requires-2
     same-length-2
     same-length-3
     returns-2)

@@ -1,12 +1,12 @@
 -- `sizes` meets its promise: it is refused with the number that its check finds, and else counted.
 -- Assumes nothing.
-use mathlib.Core.Path.{sym, ap, _∙_}
+use mathlib.Core.Path.{sym, _∙_}
 use borrow.Author.Needs.{needs}
 use denote.Ref.{now}
 use lib.ListN.{length}
-use Rattle.label.specs.Cases.{checkNumber}
+use Rattle.frame.proofs.PlainLaws.{unless-none}
 use Rattle.label.proofs.AcceptedLaws.{cause-sizes, sizes-promise}
-use Rattle.label.proofs.RefusedLaws.{refused-sizes}
+use Rattle.label.proofs.RefusedLaws.{failed-some, failed-never, passed-none, refused-sizes}
 use Rattle.label.proofs.FitLaws.{joins-fit}
 use Rattle.label.proofs.Session.sizes.Statement.{statement}
 use Rattle.label.proofs.Session.sizes.Tie as tie
@@ -14,21 +14,11 @@ use Rattle.label.proofs.Session.sizes.Tie as tie
 sizes-check-requires : tie.Need-sizes-check-requires
 sizes-check-requires c κs = search needs
 
-enum-known-cause : tie.Need-enum-known-cause
-enum-known-cause c = search needs
+failed-requires : tie.Need-failed-requires
+failed-requires c κs = search needs
 
-enum-told : tie.Need-enum-told
-enum-told c = search needs
-
-sizes-sound-requires : tie.Need-sizes-sound-requires
-sizes-sound-requires c κs =
-    let s = c .before .before .before .before .before .before .before .before .args in
-    cause-sizes (s .self) (now (s .words)) (length (now (s .sizes))) (sym (c .before .before .before .before .sizes-check .ensures) ∙ ap checkNumber (c .before .before .enum-told .given .1))
-
-accept-read-requires : tie.Need-accept-read-requires
-accept-read-requires c κs =
-    let s = c .before .before .before .before .before .before .before .before .before .before .before .before .before .args in
-    joins-fit (s .self) (now (s .words)) (cause-sizes (s .self) (now (s .words)) (length (now (s .sizes))) (sym (c .before .before .before .before .before .before .before .before .before .sizes-check .ensures) ∙ ap checkNumber (c .before .before .before .before .before .before .before .enum-told .given .1)) .0)
+answer-read-requires : tie.Need-answer-read-requires
+answer-read-requires c κs none = absurd (failed-never _ _ (c .before .failed .ensures) (c .if1 .taken) none)
 
 same-length : tie.Need-same-length
 same-length c = search needs
@@ -36,7 +26,19 @@ same-length c = search needs
 returns : tie.Need-returns
 returns c =
     let s = c .before .before .before .before .before .before .before .args in
-    refused-sizes (c .before .cause .given .0 .0) (s .self) (now (s .words)) (now (s .sizes)) (ap checkNumber (sym (c .before .cause .given .1)) ∙ c .before .before .before .sizes-check .ensures)
+    let some = failed-some _ _ (c .before .before .failed .ensures) (c .before .if1 .taken) in
+    refused-sizes (s .self) (now (s .words)) (now (s .sizes)) _ (c .before .before .before .sizes-check .ensures) some _ _ (c .answer-read .ensures .1) _ (c .answer-read .ensures .0)
+
+sizes-sound-requires : tie.Need-sizes-sound-requires
+sizes-sound-requires c κs =
+    let s = c .before .before .before .before .before .before .before .before .args in
+    let none = passed-none _ _ (c .before .before .before .failed .ensures) (c .before .before .if1 .left) in
+    cause-sizes (s .self) (now (s .words)) (length (now (s .sizes))) (sym (c .before .before .before .before .sizes-check .ensures) ∙ none)
+
+answer-read-requires-2 : tie.Need-answer-read-requires-2
+answer-read-requires-2 c κs none =
+    let s = c .before .before .before .before .before .before .before .before .before .before .before .before .before .args in
+    joins-fit (s .self) (now (s .words)) (cause-sizes (s .self) (now (s .words)) (length (now (s .sizes))) (sym (c .before .before .before .before .before .before .before .before .before .sizes-check .ensures) ∙ none) .0)
 
 same-length-2 : tie.Need-same-length-2
 same-length-2 c = search needs
@@ -47,21 +49,21 @@ same-length-3 c = search needs
 returns-2 : tie.Need-returns-2
 returns-2 c =
     let s = c .before .before .before .before .before .before .before .before .before .before .before .before .before .before .args in
-    let none = sym (c .before .before .before .before .before .before .before .before .before .before .sizes-check .ensures) ∙ ap checkNumber (c .before .before .before .before .before .before .before .before .enum-told .given .1) in
+    let none = passed-none _ _ (c .before .before .before .before .before .before .before .before .before .failed .ensures) (c .before .before .before .before .before .before .before .before .if1 .left) in
     let w = c .before .before .before .before .before .sizes-sound in
-    sizes-promise (s .self) (now (s .words)) (now (s .sizes)) none (w .last .1 .0) (w .last .1 .1 .0) (w .ensures) _ (c .accept-read .ensures .1) _ (c .accept-read .ensures .0)
+    sizes-promise (s .self) (now (s .words)) (now (s .sizes)) (sym (c .before .before .before .before .before .before .before .before .before .before .sizes-check .ensures) ∙ none) (w .last .1 .0) (w .last .1 .1 .0) (w .ensures) _ (c .answer-read2 .ensures .1 ∙ unless-none _ _ none) _ (c .answer-read2 .ensures .0)
 
 pub sizes-spec : {M : Type 1} → statement M
 sizes-spec =
     tie.close
     (tie.spec
     sizes-check-requires
-    enum-known-cause
-    enum-told
-    sizes-sound-requires
-    accept-read-requires
+    failed-requires
+    answer-read-requires
     same-length
     returns
+    sizes-sound-requires
+    answer-read-requires-2
     same-length-2
     same-length-3
     returns-2)
