@@ -35,53 +35,53 @@ module _ (rank : ℕ) (shape structure : List ℕ) where
   pub array-ready : length structure ≡ 81 → badRank (entries rank shape) ≡ false → tooLarge (entries rank shape) ≡ false → GeoReady rank shape structure
   array-ready long ranked limits = record { ranked = ranked; limits = limits; bytes = omega (arith, bytes-few rank (rank-limits rank shape ranked .1)) }
 
-  module _ (memory fed : ℕ) where
-    -- ---- the test decides
+module _ (dims bytes : List ℕ) (memory fed : ℕ) where
+  -- ---- the test decides
 
-    pub shape-sound-right : shapeSound rank shape structure memory fed ≡ true → ShapeSound rank shape structure memory fed
-    unfolding shapeSound
-    shape-sound-right h = record {
-      ranked = not-true _ (every-at _ 0 h);
-      dimensions = not-true _ (every-at _ 1 h);
-      limits = not-true _ (every-at _ 2 h);
-      memory = leb-true _ _ (every-at _ 3 h);
-      within = leb-true _ _ (every-at _ 4 h);
-    }
+  pub shape-sound-right : shapeSound dims bytes memory fed ≡ true → ShapeSound dims bytes memory fed
+  unfolding shapeSound
+  shape-sound-right h = record {
+    ranked = not-true _ (every-at _ 0 h);
+    dimensions = not-true _ (every-at _ 1 h);
+    limits = not-true _ (every-at _ 2 h);
+    memory = leb-true _ _ (every-at _ 3 h);
+    within = leb-true _ _ (every-at _ 4 h);
+  }
 
-    pub right-shape-sound : ShapeSound rank shape structure memory fed → shapeSound rank shape structure memory fed ≡ true
-    unfolding shapeSound
-    right-shape-sound A =
-        every-more _ _ (ap not (A .ranked))
-        (every-more _ _ (ap not (A .dimensions))
-        (every-more _ _ (ap not (A .limits))
-        (every-more _ _ (le-leb _ _ (A .memory))
-        (every-more _ _ (le-leb _ _ (A .within)) every-none))))
+  pub right-shape-sound : ShapeSound dims bytes memory fed → shapeSound dims bytes memory fed ≡ true
+  unfolding shapeSound
+  right-shape-sound A =
+      every-more _ _ (ap not (A .ranked))
+      (every-more _ _ (ap not (A .dimensions))
+      (every-more _ _ (ap not (A .limits))
+      (every-more _ _ (le-leb _ _ (A .memory))
+      (every-more _ _ (le-leb _ _ (A .within)) every-none))))
 
-    -- ---- what each condition answers
+  -- ---- what each condition answers
 
-    shape-unsound : (ShapeSound rank shape structure memory fed → ⊥) → false ≡ shapeSound rank shape structure memory fed
-    shape-unsound f = go (shapeSound rank shape structure memory fed) refl
-      where
-        go : (b : Bool) → shapeSound rank shape structure memory fed ≡ b → false ≡ shapeSound rank shape structure memory fed
-        go true e = absurd (f (shape-sound-right e))
-        go false e = sym e
+  shape-unsound : (ShapeSound dims bytes memory fed → ⊥) → false ≡ shapeSound dims bytes memory fed
+  shape-unsound f = go (shapeSound dims bytes memory fed) refl
+    where
+      go : (b : Bool) → shapeSound dims bytes memory fed ≡ b → false ≡ shapeSound dims bytes memory fed
+      go true e = absurd (f (shape-sound-right e))
+      go false e = sym e
 
-    pub rank-breaks : badRank (entries rank shape) ≡ true → false ≡ shapeSound rank shape structure memory fed
-    rank-breaks bad = shape-unsound (λ A. true≢false (sym bad ∙ A .ranked))
+  pub rank-breaks : badRank dims ≡ true → false ≡ shapeSound dims bytes memory fed
+  rank-breaks bad = shape-unsound (λ A. true≢false (sym bad ∙ A .ranked))
 
-    pub zero-breaks : (t : Bool) → t ≡ hasZero (leading (entries rank shape)) → t ≡ true → false ≡ shapeSound rank shape structure memory fed
-    zero-breaks t is e = shape-unsound (λ A. true≢false (sym e ∙ is ∙ A .dimensions))
+  pub zero-breaks : (t : Bool) → t ≡ hasZero (leading dims) → t ≡ true → false ≡ shapeSound dims bytes memory fed
+  zero-breaks t is e = shape-unsound (λ A. true≢false (sym e ∙ is ∙ A .dimensions))
 
-    pub large-breaks : (t : Bool) → t ≡ tooLarge (entries rank shape) → t ≡ true → false ≡ shapeSound rank shape structure memory fed
-    large-breaks t is e = shape-unsound (λ A. true≢false (sym e ∙ is ∙ A .limits))
+  pub large-breaks : (t : Bool) → t ≡ tooLarge dims → t ≡ true → false ≡ shapeSound dims bytes memory fed
+  large-breaks t is e = shape-unsound (λ A. true≢false (sym e ∙ is ∙ A .limits))
 
-    module _ (needed : ℕ) (is : needed ≡ wordsNeeded (entries rank shape) (entries (3 ^ rank) structure)) where
-      pub memory-breaks : memory < needed → false ≡ shapeSound rank shape structure memory fed
-      memory-breaks h = shape-unsound (λ A. omega (arith, A .memory))
+  module _ (needed : ℕ) (is : needed ≡ wordsNeeded dims bytes) where
+    pub memory-breaks : memory < needed → false ≡ shapeSound dims bytes memory fed
+    memory-breaks h = shape-unsound (λ A. omega (arith, A .memory))
 
-      -- where none of them holds, the lines fed decide
-      pub lines-decide : badRank (entries rank shape) ≡ false → hasZero (leading (entries rank shape)) ≡ false → tooLarge (entries rank shape) ≡ false → needed ≤ memory → (l : ℕ) → l ≡ lines (entries rank shape) → leb fed l ≡ shapeSound rank shape structure memory fed
-      lines-decide ranked dimensions limits enough l e =
-          bool-same (leb fed l) (shapeSound rank shape structure memory fed)
-          (λ t. right-shape-sound (record { ranked = ranked; dimensions = dimensions; limits = limits; memory = omega (arith, is, enough); within = omega (arith, e, leb-true fed l t) }))
-          (λ t. le-leb fed l (omega (arith, e, shape-sound-right t .within)))
+    -- where none of them holds, the lines fed decide
+    pub lines-decide : badRank dims ≡ false → hasZero (leading dims) ≡ false → tooLarge dims ≡ false → needed ≤ memory → (l : ℕ) → l ≡ lines dims → leb fed l ≡ shapeSound dims bytes memory fed
+    lines-decide ranked dimensions limits enough l e =
+        bool-same (leb fed l) (shapeSound dims bytes memory fed)
+        (λ t. right-shape-sound (record { ranked = ranked; dimensions = dimensions; limits = limits; memory = omega (arith, is, enough); within = omega (arith, e, leb-true fed l t) }))
+        (λ t. le-leb fed l (omega (arith, e, shape-sound-right t .within)))

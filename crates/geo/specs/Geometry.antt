@@ -29,19 +29,17 @@ pub record GeoOf (rank : ℕ) (shape structure : List ℕ) (g : Geo) : Type 0 wh
   pub width-is : g .width ≡ width (entries rank shape)
   pub left-is : g .left ≡ leftOn (entries rank shape) (entries (3 ^ rank) structure)
 
--- shape, memory and lines fed break no clause of document 01's "Unsound, exactly": causes 1, 3 and 4, the words needed, the lines
-module _ (rank : ℕ) (shape structure : List ℕ) (words fed : ℕ) where
-  abbrev dims : List ℕ
-  dims = entries rank shape
-
-  abbrev bytes : List ℕ
-  bytes = entries (3 ^ rank) structure
-
+-- the first clauses of document 01's "Unsound, exactly", of a shape, a structure, the count of words and the lines fed. The comment above a field
+-- quotes the clause that the field denies
+module _ (dims bytes : List ℕ) (words fed : ℕ) where
   pub record ShapeSound : Type 0 where
+    -- shape or rank breaks 1, 3 or 4
     pub ranked : badRank dims ≡ false
     pub dimensions : hasZero (leading dims) ≡ false
     pub limits : tooLarge dims ≡ false
+    -- memory shorter than needed
     pub memory : wordsNeeded dims bytes ≤ words
+    -- lines fed above L
     pub within : fed ≤ lines dims
 
   -- computed: that it decides `ShapeSound` is proved in proofs/ShapeSoundLaws.antt

@@ -110,7 +110,7 @@ pub fn shape_sound(
     memory: usize,
     fed: usize,
 ) -> bool
-    ensures { λ r. ⌜ r ≡ shapeSound rank shape (now (structure .entry)) memory fed ⌝ }
+    ensures { λ r. ⌜ r ≡ shapeSound (entries rank shape) (entries (3 ^ rank) (now (structure .entry))) memory fed ⌝ }
 {
     if bad_rank(rank) {
         return false;

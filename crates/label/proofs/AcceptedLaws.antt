@@ -62,7 +62,7 @@ module _ (s : Session) (ws : List ℕ) (k : ℕ) (cells : List Bool) where
 
   -- the new cells are those of k lines
   pub accepted-fits : FeedAccepted s ws k cells → Fits (shapeOf s) k cells
-  accepted-fits G = record { ranked = rank-right (shapeOf s) (G .is-sound .ranked) .0; below = omega (arith, G .few); whole = G .whole }
+  accepted-fits G = record { ranked = rank-right (shapeOf s) (G .is-sound .shape .ranked) .0; below = omega (arith, G .few); whole = G .whole }
 
   -- its record is known, and the words are what is left to promise
   pub accepted-session : FeedAccepted s ws k cells → (a : Answer) (s′ : Session) (ws′ : List ℕ) → FeedPromise s ws k cells a s′ ws′ → s′ ≡ feedRecord s ws k cells

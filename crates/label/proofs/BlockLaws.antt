@@ -59,7 +59,7 @@ module _ (s : Session) (ws : List ℕ) (S : Sound s ws) (k : ℕ) (more : List B
   H = sound-stores s ws S
 
   H₁ : Stores s₁ ws₁ (cells ++ more)
-  H₁ = stores-after s ws cells H k more few whole (S .memory) ws₁ W
+  H₁ = stores-after s ws cells H k more few whole (S .shape .memory) ws₁ W
 
   -- what the second feed is given, said of the first one's record
   few₁ : j ≤ linesOf s₁ - s₁ .fed
@@ -72,7 +72,7 @@ module _ (s : Session) (ws : List ℕ) (S : Sound s ws) (k : ℕ) (more : List B
 
   memory₁ : wordsNeeded (shapeOf s₁) (structureOf s₁) ≤ length ws₁
   unfolding feedRecord shapeOf structureOf
-  memory₁ = rw (W .long) (S .memory)
+  memory₁ = rw (W .long) (S .shape .memory)
 
   few-both : k + j ≤ L - s .fed
   few-both = omega arith
@@ -117,7 +117,7 @@ module _ (s : Session) (ws : List ℕ) (S : Sound s ws) (k : ℕ) (more : List B
   -- the grouping that the first feed left is that of its edges
   between : (a : ℕ) → rep (groupingOf s₁ ws₁) a ≡ rep (feedEdges s ws k more) a
   unfolding feedRecord shapeOf
-  between = grouping-rep-all (parentOf L ws₁) (runsAfter s more) (W .parents) (feedEdges s ws k more) (edges-ends s ws cells H k more few whole (S .memory) ws₁ W (S .words .parents)) (W .grouped)
+  between = grouping-rep-all (parentOf L ws₁) (runsAfter s more) (W .parents) (feedEdges s ws k more) (edges-ends s ws cells H k more few whole (S .shape .memory) ws₁ W (S .words .parents)) (W .grouped)
 
   -- so the second feed's edges group as those of one feed
   second : feedEdges s₁ ws₁ j rest ≡ visit (feedTouches s₁ ws₁ j rest) (groupingOf s₁ ws₁)
@@ -133,7 +133,7 @@ module _ (s : Session) (ws : List ℕ) (S : Sound s ws) (k : ℕ) (more : List B
   -- the joins counted by the first feed are those of the grouping that it left
   joins-between : joins (groupingOf s₁ ws₁) ≡ joins (feedEdges s ws k more)
   unfolding feedRecord shapeOf
-  joins-between = grouping-joins (parentOf L ws₁) (runsAfter s more) (W .parents) ∙ sym (joins-after s ws cells H k more few whole (S .memory) ws₁ W (S .words .parents))
+  joins-between = grouping-joins (parentOf L ws₁) (runsAfter s more) (W .parents) ∙ sym (joins-after s ws cells H k more few whole (S .shape .memory) ws₁ W (S .words .parents))
 
   joins-both : joins (feedEdges s₁ ws₁ j rest) ≡ joins (feedEdges s ws (k + j) (more ++ rest))
   joins-both =
@@ -161,10 +161,10 @@ module _ (s : Session) (ws : List ℕ) (S : Sound s ws) (k : ℕ) (more : List B
   below-both = omega arith
 
   room-both : (r : ℕ) → r < runsAfter s (more ++ rest) → endPlace L r < length ws
-  room-both r h = omega (arith, room s ws cells H (k + j) (more ++ rest) few-both whole-both (S .memory) r h)
+  room-both r h = omega (arith, room s ws cells H (k + j) (more ++ rest) few-both whole-both (S .shape .memory) r h)
 
   lines-room : L < length ws
-  lines-room = room-lines s ws cells H (k + j) (more ++ rest) few-both whole-both (S .memory)
+  lines-room = room-lines s ws cells H (k + j) (more ++ rest) few-both whole-both (S .shape .memory)
 
   -- the new runs come after those before
   runs-rise : s .runs ≤ runsAfter s more
@@ -201,7 +201,7 @@ module _ (s : Session) (ws : List ℕ) (S : Sound s ws) (k : ℕ) (more : List B
     ran = λ r h. H₂ .listed r (rw runs-both h) ∙ ap (λ (c : List Bool). frameRun shape structure c r) cells-are ∙ sym (run-after s ws cells H (k + j) (more ++ rest) few-both whole-both r h);
     stands = λ x A no-parent.
         written s₁ ws₁ (cells ++ more) H₁ j rest few₁ whole-s₁ memory₁ ws₂ W₁ .stands x (aside-second x A) (λ r h. no-parent r (omega (arith, h, runs-both)))
-        ∙ written s ws cells H k more few whole (S .memory) ws₁ W .stands x (aside-first x A) (λ r h. no-parent r (of-both r h));
+        ∙ written s ws cells H k more few whole (S .shape .memory) ws₁ W .stands x (aside-first x A) (λ r h. no-parent r (of-both r h));
   }
 
   pub words-both : FeedWords s ws (k + j) (more ++ rest) ws₂
@@ -229,7 +229,7 @@ one-feed s ws k cells a s′ ws′ G P = record { whole = G .whole; session = ac
 -- a block, and those after it
 module _ (s : Session) (ws : List ℕ) (S : Sound s ws) (k : ℕ) (more : List Bool) (s₁ : Session) (ws₁ : List ℕ) (few : k ≤ linesOf s - s .fed) (O : OneFeed s ws k more s₁ ws₁) where
   pub between-sound : Sound s₁ ws₁
-  between-sound = subst (λ (x : Session). Sound x ws₁) (sym (O .session)) (sound-after s ws (cellsOf s ws) (sound-stores s ws S) k more few (O .whole) (S .memory) ws₁ (O .words) (S .words .parents) S)
+  between-sound = subst (λ (x : Session). Sound x ws₁) (sym (O .session)) (sound-after s ws (cellsOf s ws) (sound-stores s ws S) k more few (O .whole) (S .shape .memory) ws₁ (O .words) (S .words .parents) S)
 
   pub between-shape : shapeOf s₁ ≡ shapeOf s
   between-shape = ap shapeOf (O .session) ∙ feed-shape s ws k more

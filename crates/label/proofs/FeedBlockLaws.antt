@@ -75,7 +75,7 @@ module _ (s : Session) (ws : List ℕ) (k : ℕ) (more : List Bool) (G : FeedAcc
   F = accepted-fits s ws k more G
 
   below : s .fed + k ≤ L
-  below = let b = S .within in let f = G .few in omega arith
+  below = let b = S .shape .within in let f = G .few in omega arith
 
   -- ---- extraction
 
@@ -96,7 +96,7 @@ module _ (s : Session) (ws : List ℕ) (k : ℕ) (more : List Bool) (G : FeedAcc
 
   room-all : L + 1 + stride * runsAfter s more ≤ length ws
   unfolding wordsNeeded
-  room-all = omega (arith, S .memory, few-after s ws cells H k more (G .few) (G .whole), mul-assoc stride L (perLine shape structure))
+  room-all = omega (arith, S .shape .memory, few-after s ws cells H k more (G .few) (G .whole), mul-assoc stride L (perLine shape structure))
 
   few : runsAfter s more < 4294967293
   unfolding runs
@@ -129,7 +129,7 @@ module _ (s : Session) (ws : List ℕ) (k : ℕ) (more : List Bool) (G : FeedAcc
     })
 
     old-line : (ℓ : ℕ) → ℓ ≤ s .fed → lineStart ws₁ ℓ ≡ lineStart ws ℓ
-    old-line ℓ h = let f = S .within in stands ℓ (record { no-line = λ i l e. omega arith; no-start = λ r a b e. omega arith; no-end = λ r a b e. omega arith })
+    old-line ℓ h = let f = S .shape .within in stands ℓ (record { no-line = λ i l e. omega arith; no-start = λ r a b e. omega arith; no-end = λ r a b e. omega arith })
 
     old-run : (r : ℕ) → r < s .runs → storedRun L ws₁ r ≡ storedRun L ws r
     old-run r h =
@@ -255,7 +255,7 @@ module _ (s : Session) (ws : List ℕ) (k : ℕ) (more : List Bool) (G : FeedAcc
         pub block-words : FeedWords s ws k more ws₂
         block-words = record {
           long = U .long ∙ B .long;
-          others = wrote-others s ws k more below (λ r h. omega (arith, room s ws cells H k more (G .few) (G .whole) (S .memory) r h)) (room-lines s ws cells H k more (G .few) (G .whole) (S .memory)) ws₂ wrote₂;
+          others = wrote-others s ws k more below (λ r h. omega (arith, room s ws cells H k more (G .few) (G .whole) (S .shape .memory) r h)) (room-lines s ws cells H k more (G .few) (G .whole) (S .shape .memory)) ws₂ wrote₂;
           parents = λ r h. U .parents r (rw last-start h);
           grouped = λ r h. U .grouped r (rw last-start h) ∙ ap (λ (es : List Edge). rep es r) edges-are;
           no-lines = λ z. U .no-lines z ∙ none-written z;
@@ -303,7 +303,7 @@ module _ (s : Session) (ws : List ℕ) (k : ℕ) (more : List Bool) (ws₁ : Lis
         let G = X .given in
         let S = G .is-sound in
         let p = parentOf (linesOf s) ws₂ in
-        omega (arith, joins-are, joins-after s ws (cellsOf s ws) (sound-stores s ws S) k more (G .few) (G .whole) (S .memory) ws₂ W (S .words .parents), count-most (λ r. not (own p r)) (runsAfter s more), few s ws k more G)
+        omega (arith, joins-are, joins-after s ws (cellsOf s ws) (sound-stores s ws S) k more (G .few) (G .whole) (S .shape .memory) ws₂ W (S .words .parents), count-most (λ r. not (own p r)) (runsAfter s more), few s ws k more G)
 
     pub feed-done : FeedDone s ws k more (withFigures s (s .fed + k) n (s .joins + t)) ws₂
     unfolding feedRecord

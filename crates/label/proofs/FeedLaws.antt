@@ -161,4 +161,4 @@ module _ (s : Session) (ws : List ℕ) (cells : List Bool) (H : Stores s ws cell
         pub sound-after : Sound s ws → Sound (feedRecord s ws k more) ws′
         unfolding feedRecord shapeOf structureOf
         sound-after S =
-            stores-sound (feedRecord s ws k more) ws′ (cells ++ more) stores-after (S .ranked) (S .dimensions) (S .limits) (rw (W .long) (S .memory)) (W .parents) joins-after
+            stores-sound (feedRecord s ws k more) ws′ (cells ++ more) stores-after (S .shape .ranked) (S .shape .dimensions) (S .shape .limits) (rw (W .long) (S .shape .memory)) (W .parents) joins-after

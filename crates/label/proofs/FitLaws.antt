@@ -69,10 +69,10 @@ module _ (s : Session) (ws : List ℕ) (S : Sound s ws) where
   dims = shapeOf s
 
   pub limits : (width dims < 2147483647) × (lines dims < 4294967293) × (size dims < 4294967293)
-  limits = within-limits dims (S .limits)
+  limits = within-limits dims (S .shape .limits)
 
   pub fed-fits : s .fed < 4294967293
-  fed-fits = omega (arith, S .within, limits .1)
+  fed-fits = omega (arith, S .shape .within, limits .1)
 
   -- no more runs than cells
   pub runs-fit : s .runs < 4294967293
@@ -137,10 +137,10 @@ module _ (s : Session) (ws : List ℕ) (k : ℕ) (cells : List Bool) (no-cause :
 
   -- the record is sound again, so that the line starts, runs and parents that the words then hold fit
   S′ : Sound (feedRecord s ws k cells) ws′
-  S′ = sound-after s ws (cellsOf s ws) H k cells (G .few) (G .whole) (G .is-sound .memory) ws′ W (G .is-sound .words .parents) (G .is-sound)
+  S′ = sound-after s ws (cellsOf s ws) H k cells (G .few) (G .whole) (G .is-sound .shape .memory) ws′ W (G .is-sound .words .parents) (G .is-sound)
 
   placed : Wrote s ws k cells ws′
-  placed = written s ws (cellsOf s ws) H k cells (G .few) (G .whole) (G .is-sound .memory) ws′ W
+  placed = written s ws (cellsOf s ws) H k cells (G .few) (G .whole) (G .is-sound .shape .memory) ws′ W
 
   start-fits : (ℓ : ℕ) → ℓ ≤ s .fed + k → startAfter s ws cells ℓ < 4294967296
   unfolding feedRecord

@@ -44,10 +44,10 @@ module _ (s : Session) (ws : List ℕ) (I : Inv s ws) (k : ℕ) (more : List Boo
 
   -- the words hold the lines fed before and the new ones
   pub fed-cells : cellsOf (feedRecord s ws k more) ws′ ≡ cellsOf s ws ++ more
-  fed-cells = stores-cells (feedRecord s ws k more) ws′ (cellsOf s ws ++ more) (stores-after s ws (cellsOf s ws) H k more (G .few) (G .whole) (I .is-sound .memory) ws′ W)
+  fed-cells = stores-cells (feedRecord s ws k more) ws′ (cellsOf s ws ++ more) (stores-after s ws (cellsOf s ws) H k more (G .few) (G .whole) (I .is-sound .shape .memory) ws′ W)
 
   pub fed-sound : Sound (feedRecord s ws k more) ws′
-  fed-sound = sound-after s ws (cellsOf s ws) H k more (G .few) (G .whole) (I .is-sound .memory) ws′ W (I .is-sound .words .parents) (I .is-sound)
+  fed-sound = sound-after s ws (cellsOf s ws) H k more (G .few) (G .whole) (I .is-sound .shape .memory) ws′ W (I .is-sound .words .parents) (I .is-sound)
 
   -- the grouping held before is that of the old lines' touches
   before : (a : ℕ) → rep (groupingOf s ws) a ≡ rep (visited s ws) a

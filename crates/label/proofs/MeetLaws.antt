@@ -65,7 +65,7 @@ module _ (s : Session) (ws : List ℕ) (k : ℕ) (cells : List Bool) (no-cause :
   G = cause-accepted s ws k cells no-cause
 
   parent-fits : (r : ℕ) → r < after → parentPlace L r < length ws
-  parent-fits r l = omega (arith, room s ws (cellsOf s ws) (sound-stores s ws (G .is-sound)) k cells (G .few) (G .whole) (G .is-sound .memory) r l)
+  parent-fits r l = omega (arith, room s ws (cellsOf s ws) (sound-stores s ws (G .is-sound)) k cells (G .few) (G .whole) (G .is-sound .shape .memory) r l)
 
   -- each parent is its group's smallest run
   parent-is : (r : ℕ) → r < after → parentOf L (withParents s ws k cells) r ≡ rep es r

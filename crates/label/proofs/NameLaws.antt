@@ -53,6 +53,6 @@ module _ (s : Session) (ws : List ℕ) where
 
     pub sound-named : Sound s ws → Sound s (withNames s ws)
     sound-named S =
-        stores-sound s (withNames s ws) cells stores-named (S .ranked) (S .dimensions) (S .limits) (rw length-names (S .memory))
+        stores-sound s (withNames s ws) cells stores-named (S .shape .ranked) (S .shape .dimensions) (S .shape .limits) (rw length-names (S .shape .memory))
         (subst (λ (p : ℕ → ℕ). (r : ℕ) → r < s .runs → p r ≤ r) (sym parents-stand) (S .words .parents))
         (S .words .join-count ∙ ap (λ (p : ℕ → ℕ). nonRoots p (s .runs)) (sym parents-stand))

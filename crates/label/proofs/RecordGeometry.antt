@@ -4,7 +4,7 @@ use mathlib.Core.Path.{_≡_, refl, sym, ap, _∙_, subst}
 use mathlib.Core.Logic.{_≢_}
 use mathlib.Core.Bool.{Bool, true, false, true≢false}
 use mathlib.Core.List.{List}
-use Prim.Native.Nat.{ℕ, _+_, _-_, _*_, _≤_, _<_}
+use Prim.Native.Nat.{ℕ, _+_, _-_, _*_, _≤_, _<_, _^_}
 use native.Mathlib.Nat.{mul-assoc, mul-le-mul-right}
 use native.Mathlib.Omega.{arith}
 use lib.ListN.{length}
@@ -38,18 +38,18 @@ module _ (s : Session) (long : length (s .structure) ≡ 81) where
   record-ready ranked limits = array-ready (s .rank) (s .shape) (s .structure) long ranked limits
 
   pub sound-ready : (ws : List ℕ) → Sound s ws → GeoReady (s .rank) (s .shape) (s .structure)
-  sound-ready ws S = record-ready (S .ranked) (S .limits)
+  sound-ready ws S = record-ready (S .shape .ranked) (S .shape .limits)
 
 module _ (s : Session) (ws : List ℕ) where
   -- ---- the clauses about shape and memory
 
   -- those of a sound record hold
-  pub sound-shape : Sound s ws → shapeSound (s .rank) (s .shape) (s .structure) (length ws) (s .fed) ≡ true
+  pub sound-shape : Sound s ws → shapeSound (entries (s .rank) (s .shape)) (entries (3 ^ s .rank) (s .structure)) (length ws) (s .fed) ≡ true
   unfolding shapeOf structureOf
-  sound-shape S = right-shape-sound _ _ _ _ _ (record { ranked = S .ranked; dimensions = S .dimensions; limits = S .limits; memory = S .memory; within = S .within })
+  sound-shape S = right-shape-sound _ _ _ _ (S .shape)
 
   -- so where they do not the record is not sound
-  pub unsound-shape : (t : Bool) → t ≡ shapeSound (s .rank) (s .shape) (s .structure) (length ws) (s .fed) → t ≡ false → false ≡ sound s ws
+  pub unsound-shape : (t : Bool) → t ≡ shapeSound (entries (s .rank) (s .shape)) (entries (3 ^ s .rank) (s .structure)) (length ws) (s .fed) → t ≡ false → false ≡ sound s ws
   unsound-shape t is e = go (sound s ws) refl
     where
       go : (b : Bool) → sound s ws ≡ b → false ≡ sound s ws
@@ -57,9 +57,9 @@ module _ (s : Session) (ws : List ℕ) where
       go false h = sym h
 
   -- and where they do its size is allowed
-  pub shape-ready : (t : Bool) → t ≡ shapeSound (s .rank) (s .shape) (s .structure) (length ws) (s .fed) → t ≡ true → (badRank (shapeOf s) ≡ false) × (tooLarge (shapeOf s) ≡ false)
+  pub shape-ready : (t : Bool) → t ≡ shapeSound (entries (s .rank) (s .shape)) (entries (3 ^ s .rank) (s .structure)) (length ws) (s .fed) → t ≡ true → (badRank (shapeOf s) ≡ false) × (tooLarge (shapeOf s) ≡ false)
   unfolding shapeOf
-  shape-ready t is e = let A = shape-sound-right _ _ _ _ _ (sym is ∙ e) in (A .ranked, A .limits)
+  shape-ready t is e = let A = shape-sound-right _ _ _ _ (sym is ∙ e) in (A .ranked, A .limits)
 
   -- ---- its geometry
 
@@ -76,13 +76,10 @@ module _ (s : Session) (ws : List ℕ) where
     unfolding shapeOf structureOf
     geo-left = K .left-is
 
-    module _ (t : Bool) (is : t ≡ shapeSound (s .rank) (s .shape) (s .structure) (length ws) (s .fed)) (yes : t ≡ true) where
-      A : ShapeSound (s .rank) (s .shape) (s .structure) (length ws) (s .fed)
-      A = shape-sound-right _ _ _ _ _ (sym is ∙ yes)
-
-      memory : wordsNeeded (shapeOf s) (structureOf s) ≤ length ws
+    module _ (t : Bool) (is : t ≡ shapeSound (entries (s .rank) (s .shape)) (entries (3 ^ s .rank) (s .structure)) (length ws) (s .fed)) (yes : t ≡ true) where
+      A : ShapeSound (shapeOf s) (structureOf s) (length ws) (s .fed)
       unfolding shapeOf structureOf
-      memory = A .memory
+      A = shape-sound-right _ _ _ _ (sym is ∙ yes)
 
       -- the words that the pass may read
       words-are : wordsNeeded (shapeOf s) (structureOf s) ≡ g .lines + 1 + stride * (g .lines * mostRuns (g .left) (g .width))
@@ -92,9 +89,9 @@ module _ (s : Session) (ws : List ℕ) where
       pub pass-ready : PassReady (g .lines) (g .width) (g .left) (s .fed) ws
       pass-ready =
           record {
-            within = omega (arith, A .within, K .lines-is);
-            memory = omega (arith, words-are, memory);
-            short = omega (arith, K .width-is, within-limits (entries (s .rank) (s .shape)) (A .limits) .0);
+            within = omega (arith, A .within, geo-lines);
+            memory = omega (arith, words-are, A .memory);
+            short = omega (arith, geo-width, within-limits (shapeOf s) (A .limits) .0);
           }
 
       -- and what is left to test
@@ -103,11 +100,7 @@ module _ (s : Session) (ws : List ℕ) where
         where
           all : r ≡ true → Sound s ws
           all t = record {
-            ranked = unfold shapeOf in A .ranked;
-            dimensions = unfold shapeOf in A .dimensions;
-            limits = unfold shapeOf in A .limits;
-            memory = memory;
-            within = unfold shapeOf in A .within;
+            shape = A;
             words = words-right _ _ _ _ _ _ ws (rw (← geo-lines, ← geo-width, ← geo-left) (sym e ∙ t));
           }
 
@@ -115,13 +108,13 @@ module _ (s : Session) (ws : List ℕ) where
 
 module _ (s : Session) (ws : List ℕ) (S : Sound s ws) (g : Geo) (K : GeoOf (s .rank) (s .shape) (s .structure) g) where
   pub geo-within : s .fed ≤ g .lines
-  geo-within = omega (arith, S .within, geo-lines s ws g K)
+  geo-within = omega (arith, S .shape .within, geo-lines s ws g K)
 
   pub geo-size : g .lines * g .width ≡ size (shapeOf s)
   geo-size = rw (geo-lines s ws g K, geo-width s ws g K) (sym (size-lines (shapeOf s)))
 
   pub geo-small : size (shapeOf s) < 4294967293
-  geo-small = within-limits (shapeOf s) (S .limits) .2
+  geo-small = within-limits (shapeOf s) (S .shape .limits) .2
 
   module _ (k : ℕ) where
     -- the cells of lines that the frame still has

@@ -160,14 +160,14 @@ module _ (s : Session) (ws : List ℕ) (K : Sound s ws) where
       let l : i < lineStart ws (suc ℓ) - lineStart ws ℓ = omega (arith, ap length (line-runs ℓ (P .is-line)), held-length ℓ (P .is-line)) in
       sym
       (ap run q
-      ∙ run-at dims bytes cells ℓ i (le-trans (P .is-line) (K .within)) k
+      ∙ run-at dims bytes cells ℓ i (le-trans (P .is-line) (K .shape .within)) k
       ∙ ap (λ (rs : List Run). getD rs i none) (line-runs ℓ (P .is-line))
       ∙ held-at ℓ (P .is-line) i l
       ∙ ap stored e)
 
   pub sound-stores : Stores s ws (cellsOf s ws)
   sound-stores = record {
-    fits = record { ranked = rank-right dims (K .ranked) .0; below = K .within; whole = length-held s ws };
+    fits = record { ranked = rank-right dims (K .shape .ranked) .0; below = K .shape .within; whole = length-held s ws };
     starts = starts-are;
     runs-are = runs-are;
     listed = listed;

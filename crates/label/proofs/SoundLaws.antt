@@ -1,13 +1,12 @@
 -- The test decides soundness; and what a sound record says of line starts and of its groups.
 -- Assumes nothing.
-use mathlib.Core.Path.{_≡_, ap}
-use mathlib.Core.Bool.{true, not}
+use mathlib.Core.Path.{_≡_}
+use mathlib.Core.Bool.{true}
 use mathlib.Core.List.{List}
 use Prim.Native.Nat.{ℕ, _+_, _-_, _≤_}
 use native.Mathlib.Decide.{le-ind}
 use native.Mathlib.Nat.{le-refl, le-trans}
 use native.Mathlib.Omega.{arith}
-use borrow.Author.Tests.{leb-true, le-leb, not-true}
 use Rattle.groups.specs.Groups.{groups}
 use Rattle.frame.specs.Words.{lineStart, parentOf}
 use Rattle.frame.proofs.ListLaws.{every-at, every-more, every-none}
@@ -16,6 +15,7 @@ use Rattle.label.specs.declared.Session.{Session}
 use Rattle.label.specs.Record.{linesOf}
 use Rattle.label.specs.Sound.{Sound, sound}
 use Rattle.label.specs.Held.{groupingOf, rootCount}
+use Rattle.geo.proofs.ShapeSoundLaws.{shape-sound-right, right-shape-sound}
 use Rattle.sound.proofs.StoredLaws.{words-right, right-words}
 
 -- ---- the test decides
@@ -24,24 +24,16 @@ module _ (s : Session) (ws : List ℕ) where
   pub sound-right : sound s ws ≡ true → Sound s ws
   unfolding sound
   sound-right h = record {
-    ranked = not-true _ (every-at _ 0 h);
-    dimensions = not-true _ (every-at _ 1 h);
-    limits = not-true _ (every-at _ 2 h);
-    memory = leb-true _ _ (every-at _ 3 h);
-    within = leb-true _ _ (every-at _ 4 h);
-    words = words-right _ _ _ _ _ _ ws (every-at _ 5 h);
+    shape = shape-sound-right _ _ _ _ (every-at _ 0 h);
+    words = words-right _ _ _ _ _ _ ws (every-at _ 1 h);
   }
 
   pub right-sound : Sound s ws → sound s ws ≡ true
   unfolding sound
   right-sound S =
-      every-more _ _ (ap not (S .ranked))
-      (every-more _ _ (ap not (S .dimensions))
-      (every-more _ _ (ap not (S .limits))
-      (every-more _ _ (le-leb _ _ (S .memory))
-      (every-more _ _ (le-leb _ _ (S .within))
+      every-more _ _ (right-shape-sound _ _ _ _ (S .shape))
       (every-more _ _ (right-words _ _ _ _ _ _ ws (S .words))
-      every-none)))))
+      every-none)
 
 -- ---- of a sound record
 

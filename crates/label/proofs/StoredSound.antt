@@ -98,11 +98,7 @@ module _ (s : Session) (ws : List ℕ) (cells : List Bool) (H : Stores s ws cell
   module _ (ranked : badRank dims ≡ false) (dimensions : hasZero (leading dims) ≡ false) (limits : tooLarge dims ≡ false) (memory : wordsNeeded dims bytes ≤ length ws) (parents : (r : ℕ) → r < s .runs → parentOf (linesOf s) ws r ≤ r) (join-count : s .joins ≡ nonRoots (parentOf (linesOf s) ws) (s .runs)) where
     pub stores-sound : Sound s ws
     stores-sound = record {
-      ranked = ranked;
-      dimensions = dimensions;
-      limits = limits;
-      memory = memory;
-      within = H .fits .below;
+      shape = record { ranked = ranked; dimensions = dimensions; limits = limits; memory = memory; within = H .fits .below };
       words = record {
         first = H .starts 0 (omega arith) ∙ start-zero dims bytes cells;
         rising = starts-rise;

@@ -17,6 +17,7 @@ use Rattle.frame.specs.Causes.{badRank, hasZero, tooLarge, firstCause, openTest
 use Rattle.frame.specs.Plain.{Figures, unless, kept, feeds, groupsOf, figures}
 use Rattle.frame.specs.Lists.{all, every, lastBelow, entries, padded, setAll}
 use Rattle.forest.specs.Forest.{up, rootOf, own, roots, nonRoots, numberIn, grouping}
+use Rattle.geo.specs.Geometry.{shapeSound}
 use Rattle.sound.specs.Stored.{wordsSound}
 use Rattle.label.specs.declared.Session.{Session}
 use Rattle.label.specs.Record.{shapeOf, structureOf}
@@ -29,7 +30,7 @@ use Rattle.label.proofs.CallFunctions.{OpenResult, FeedResult, doOpen, 
 
 -- what a computation opens
 unfoldable pub computed : Unit {0}
-unfolding merge rep isRoot count groups joins gather pairs visit number size width leading coords offset backward on leftOn nonzero sameList any leadsBy step edges groupCount label range labels goesOn beginsRun runs stretches singles lineRuns gapOf lineOf frameRuns allRuns runsBefore frameRun reaches used hasNbr nbrLine touchesBy touchesOf touches largest holds perLine wordsNeeded badRank hasZero tooLarge firstCause openTests openCause feedTests feedCause readTests readCause sizesTests sizesCause frameTests frameCause unless kept feeds groupsOf figures entries shapeOf structureOf setAll up rootOf own roots nonRoots numberIn grouping all every wordsSound sound lastBelow holdsCell cellsOf holderOf rootCount numberAt sizeAt padded runsAfter startAfter runAfter feedTouches feedEdges feedRecord withLines withRuns feedCauseOf withNames readCauseOf sizesCauseOf earlyCauseOf frameCauseOf doOpen withParents feedWords doFeed doRead doSizes frameFeed doFrame zipWith
+unfolding merge rep isRoot count groups joins gather pairs visit number size width leading coords offset backward on leftOn nonzero sameList any leadsBy step edges groupCount label range labels goesOn beginsRun runs stretches singles lineRuns gapOf lineOf frameRuns allRuns runsBefore frameRun reaches used hasNbr nbrLine touchesBy touchesOf touches largest holds perLine wordsNeeded badRank hasZero tooLarge firstCause openTests openCause feedTests feedCause readTests readCause sizesTests sizesCause frameTests frameCause unless kept feeds groupsOf figures entries shapeOf structureOf setAll up rootOf own roots nonRoots numberIn grouping all every shapeSound wordsSound sound lastBelow holdsCell cellsOf holderOf rootCount numberAt sizeAt padded runsAfter startAfter runAfter feedTouches feedEdges feedRecord withLines withRuns feedCauseOf withNames readCauseOf sizesCauseOf earlyCauseOf frameCauseOf doOpen withParents feedWords doFeed doRead doSizes frameFeed doFrame zipWith
 computed = tt
 
 -- ---- document 01's frame 1, fed line by line

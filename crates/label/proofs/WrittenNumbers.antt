@@ -58,7 +58,7 @@ module _ (s : Session) (ws : List ℕ) (S : Sound s ws) where
   pub names-ready : NamesReady (linesOf s) (s .runs) ws
   unfolding wordsNeeded
   names-ready = record {
-    room = omega (arith, S .memory, H .runs-are, starts-few (shapeOf s) (structureOf s) cells (s .fed), mul-le-mul-right h (S .within), mul-assoc stride L h);
+    room = omega (arith, S .shape .memory, H .runs-are, starts-few (shapeOf s) (structureOf s) cells (s .fed), mul-le-mul-right h (S .shape .within), mul-assoc stride L h);
     parents = S .words .parents;
     small = omega (arith, runs-fit s ws S);
   }
@@ -72,7 +72,7 @@ module _ (s : Session) (ws : List ℕ) (S : Sound s ws) where
 
   lines-held : LinesHeld L w (s .fed) ws
   lines-held = record {
-    within = S .within;
+    within = S .shape .within;
     first = S .words .first;
     sorted = stores-ordered s ws cells H;
     inside = λ r h. S .words .inside r (rw (S .words .last) at h);

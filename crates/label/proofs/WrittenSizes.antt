@@ -101,7 +101,7 @@ module _ (s : Session) (ws : List ℕ) (S : Sound s ws) where
       to = ℓ * w + runEnd L ws r;
       long = omega arith;
       upto = omega (arith, S .words .nonempty r h);
-      below = rw (size-lines (shapeOf s)) (omega (arith, S .words .inside r h, suc-mul ℓ w, mul-le-mul-right w (le-trans fed (S .within))));
+      below = rw (size-lines (shapeOf s)) (omega (arith, S .words .inside r h, suc-mul ℓ w, mul-le-mul-right w (le-trans fed (S .shape .within))));
       inside = inside;
       only = only;
     }

@@ -1,16 +1,13 @@
 -- Sound: no clause of document 01's "Unsound, exactly" holds. Clause by clause in its order, and the test that decides it.
 -- Assumes nothing.
-use mathlib.Core.Path.{_≡_}
-use mathlib.Core.Bool.{Bool, false, not}
+use mathlib.Core.Bool.{Bool}
 use mathlib.Core.List.{List, [], _∷_}
-use Prim.Native.Nat.{ℕ, _≤_}
-use lib.Dec.{leb}
+use Prim.Native.Nat.{ℕ}
 use lib.ListN.{length}
-use Rattle.frame.specs.Shape.{width, leading}
+use Rattle.frame.specs.Shape.{width}
 use Rattle.frame.specs.Structure.{leftOn}
-use Rattle.frame.specs.Memory.{wordsNeeded}
-use Rattle.frame.specs.Causes.{badRank, hasZero, tooLarge}
 use Rattle.frame.specs.Lists.{every}
+use Rattle.geo.specs.Geometry.{ShapeSound, shapeSound}
 use Rattle.sound.specs.Stored.{WordsSound, wordsSound}
 use Rattle.label.specs.declared.Session.{Session}
 use Rattle.label.specs.Record.{shapeOf, structureOf, linesOf}
@@ -32,27 +29,17 @@ module _ (s : Session) (ws : List ℕ) where
   abbrev left : Bool
   left = leftOn (shapeOf s) (structureOf s)
 
-  -- The comment above a field quotes the clause that the field denies. The last clause, "a derived field that differs from shape and
+  -- The last clause, "a derived field that differs from shape and
   -- structure", has nothing to compare: the record has no such field
   pub record Sound : Type 0 where
-    -- shape or rank breaks 1, 3 or 4
-    pub ranked : badRank dims ≡ false
-    pub dimensions : hasZero (leading dims) ≡ false
-    pub limits : tooLarge dims ≡ false
-    -- memory shorter than needed
-    pub memory : wordsNeeded dims bytes ≤ length ws
-    -- lines fed above L
-    pub within : s .fed ≤ L
+    -- the clauses about shape, memory and lines fed: they stand in crate geo, with the code that tests them
+    pub shape : ShapeSound dims bytes (length ws) (s .fed)
     -- the clauses about the words, from word 0 to joins: they stand in crate sound, with the pass that decides them
     pub words : WordsSound L w left (s .fed) (s .runs) (s .joins) ws
 
   -- computed: that it decides `Sound` is proved in proofs/SoundLaws.antt
   unfoldable pub sound : Bool
   sound =
-      every (not (badRank dims)
-      ∷ not (hasZero (leading dims))
-      ∷ not (tooLarge dims)
-      ∷ leb (wordsNeeded dims bytes) (length ws)
-      ∷ leb (s .fed) L
+      every (shapeSound dims bytes (length ws) (s .fed)
       ∷ wordsSound L w left (s .fed) (s .runs) (s .joins) ws
       ∷ [])

@@ -13,7 +13,7 @@ bad-rank-requires c κs = search needs
 returns : tie.Need-returns
 returns c =
     let s = c .before .before .args in
-    rank-breaks (s .rank) (s .shape) (now (s .structure)) (s .memory) (s .fed) (rank-test (s .rank) (s .shape) _ _ (c .before .bad-rank .ensures) (c .if1 .taken))
+    rank-breaks _ _ (s .memory) (s .fed) (rank-test (s .rank) (s .shape) _ _ (c .before .bad-rank .ensures) (c .if1 .taken))
 
 has-zero-requires : tie.Need-has-zero-requires
 has-zero-requires c κs = let s = c .before .before .args in rank-test (s .rank) (s .shape) _ _ (c .before .bad-rank .ensures) (c .if1 .left)
@@ -21,7 +21,7 @@ has-zero-requires c κs = let s = c .before .before .args in rank-test (s .rank)
 returns-2 : tie.Need-returns-2
 returns-2 c =
     let s = c .before .before .before .before .args in
-    zero-breaks (s .rank) (s .shape) (now (s .structure)) (s .memory) (s .fed) _ (c .before .has-zero .ensures) (c .if2 .taken)
+    zero-breaks _ _ (s .memory) (s .fed) _ (c .before .has-zero .ensures) (c .if2 .taken)
 
 too-large-requires : tie.Need-too-large-requires
 too-large-requires c κs = let s = c .before .before .before .before .args in rank-test (s .rank) (s .shape) _ _ (c .before .before .before .bad-rank .ensures) (c .before .before .if1 .left)
@@ -29,7 +29,7 @@ too-large-requires c κs = let s = c .before .before .before .before .args in ra
 returns-3 : tie.Need-returns-3
 returns-3 c =
     let s = c .before .before .before .before .before .before .args in
-    large-breaks (s .rank) (s .shape) (now (s .structure)) (s .memory) (s .fed) _ (c .before .too-large .ensures) (c .if3 .taken)
+    large-breaks _ _ (s .memory) (s .fed) _ (c .before .too-large .ensures) (c .if3 .taken)
 
 words-needed-requires : tie.Need-words-needed-requires
 words-needed-requires c κs =
@@ -40,7 +40,7 @@ words-needed-requires c κs =
 returns-4 : tie.Need-returns-4
 returns-4 c =
     let s = c .before .before .before .before .before .before .before .before .before .args in
-    memory-breaks (s .rank) (s .shape) (now (s .structure)) (s .memory) (s .fed) _ (c .before .words-needed .ensures) (c .if4 .taken)
+    memory-breaks _ _ (s .memory) (s .fed) _ (c .before .words-needed .ensures) (c .if4 .taken)
 
 geo-of-requires : tie.Need-geo-of-requires
 geo-of-requires c κs =
@@ -52,7 +52,7 @@ returns-5 : tie.Need-returns-5
 returns-5 c =
     let s = c .before .before .before .before .before .before .before .before .before .before .before .before .args in
     let ranked = rank-test (s .rank) (s .shape) _ _ (c .before .before .before .before .before .before .before .before .before .before .before .bad-rank .ensures) (c .before .before .before .before .before .before .before .before .before .before .if1 .left) in
-    lines-decide (s .rank) (s .shape) (now (s .structure)) (s .memory) (s .fed) _ (c .before .before .before .before .words-needed .ensures) ranked (sym (c .before .before .before .before .before .before .before .before .before .has-zero .ensures) ∙ c .before .before .before .before .before .before .before .before .if2 .left) (sym (c .before .before .before .before .before .before .before .too-large .ensures) ∙ c .before .before .before .before .before .before .if3 .left) (c .before .before .before .if4 .left) (c .before .geo-of .result .lines) (c .before .geo-of .ensures .lines-is)
+    lines-decide _ _ (s .memory) (s .fed) _ (c .before .before .before .before .words-needed .ensures) ranked (sym (c .before .before .before .before .before .before .before .before .before .has-zero .ensures) ∙ c .before .before .before .before .before .before .before .before .if2 .left) (sym (c .before .before .before .before .before .before .before .too-large .ensures) ∙ c .before .before .before .before .before .before .if3 .left) (c .before .before .before .if4 .left) (c .before .geo-of .result .lines) (c .before .geo-of .ensures .lines-is)
 
 pub shape-sound-spec : {M : Type 1} → statement M
 shape-sound-spec =

@@ -21,7 +21,7 @@ geometry-requires : tie.Need-geometry-requires
 geometry-requires c κs =
     let s = c .before .before .before .args .self in
     let S = sound-right s (now (c .before .before .before .args .words)) (sym (c .before .is-sound .ensures) ∙ not-false _ (c .if1 .left)) in
-    (S .ranked, S .limits)
+    (S .shape .ranked, S .shape .limits)
 
 sub-if2 : tie.Need-sub-if2
 sub-if2 c =

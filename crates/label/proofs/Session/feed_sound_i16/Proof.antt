@@ -9,7 +9,7 @@ use Rattle.label.proofs.Session.feed_sound_i16.Statement.{statement}
 use Rattle.label.proofs.Session.feed_sound_i16.Tie as tie
 
 geometry-requires : tie.Need-geometry-requires
-geometry-requires c κs = (c .before .pre .is-sound .ranked, c .before .pre .is-sound .limits)
+geometry-requires c κs = (c .before .pre .is-sound .shape .ranked, c .before .pre .is-sound .shape .limits)
 
 extract-block-i16-requires : tie.Need-extract-block-i16-requires
 extract-block-i16-requires c κs =

@@ -9,7 +9,7 @@ use Rattle.label.proofs.Session.feed_sound_u16.Statement.{statement}
 use Rattle.label.proofs.Session.feed_sound_u16.Tie as tie
 
 geometry-requires : tie.Need-geometry-requires
-geometry-requires c κs = (c .before .before .pre .is-sound .ranked, c .before .before .pre .is-sound .limits)
+geometry-requires c κs = (c .before .before .pre .is-sound .shape .ranked, c .before .before .pre .is-sound .shape .limits)
 
 extract-block-u16-requires : tie.Need-extract-block-u16-requires
 extract-block-u16-requires c κs =

@@ -23,7 +23,7 @@ geometry-requires c κs =
     let s = c .before .before .before .args .self in
     let ws = now (c .before .before .before .args .words) in
     let S = sound-right s ws (sym (c .before .is-sound .ensures) ∙ not-false _ (c .if1 .left)) in
-    (S .ranked, S .limits)
+    (S .shape .ranked, S .shape .limits)
 
 mul-if2 : tie.Need-mul-if2
 mul-if2 c =

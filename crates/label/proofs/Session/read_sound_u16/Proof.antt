@@ -10,7 +10,7 @@ use Rattle.label.proofs.Session.read_sound_u16.Statement.{statement}
 use Rattle.label.proofs.Session.read_sound_u16.Tie as tie
 
 geometry-requires : tie.Need-geometry-requires
-geometry-requires c κs = (c .before .before .pre .is-sound .ranked, c .before .before .pre .is-sound .limits)
+geometry-requires c κs = (c .before .before .pre .is-sound .shape .ranked, c .before .before .pre .is-sound .shape .limits)
 
 write-block-u16-requires : tie.Need-write-block-u16-requires
 write-block-u16-requires c κs =

@@ -9,7 +9,7 @@ use Rattle.label.proofs.Session.sizes_sound.Statement.{statement}
 use Rattle.label.proofs.Session.sizes_sound.Tie as tie
 
 geometry-requires : tie.Need-geometry-requires
-geometry-requires c κs = (c .before .before .pre .0 .ranked, c .before .before .pre .0 .limits)
+geometry-requires c κs = (c .before .before .pre .0 .shape .ranked, c .before .before .pre .0 .shape .limits)
 
 size-block-requires : tie.Need-size-block-requires
 size-block-requires c κs =

@@ -8,7 +8,7 @@ use Rattle.label.proofs.Session.unite.Statement.{statement}
 use Rattle.label.proofs.Session.unite.Tie as tie
 
 geometry-requires : tie.Need-geometry-requires
-geometry-requires c κs = let S = c .before .pre .extracted .given .is-sound in (S .ranked, S .limits)
+geometry-requires c κs = let S = c .before .pre .extracted .given .is-sound in (S .shape .ranked, S .shape .limits)
 
 union-block-requires : tie.Need-union-block-requires
 union-block-requires c κs =
