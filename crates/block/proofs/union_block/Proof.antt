@@ -3,6 +3,8 @@
 use Prim.Native.Nat.{_+_, _-_, _≤_}
 use native.Mathlib.Omega.{arith}
 use borrow.Author.Needs.{needs}
+use lib.ListN.{length}
+use mathlib.Core.Path.{_≡_}
 use Rattle.block.proofs.LineUnionLaws.{Going, going-none, going-few, going-ready, going-then}
 use Rattle.block.proofs.BlockUnionLaws.{block-idle, reset-ready, reset-own, block-united}
 use Rattle.block.proofs.union_block.Statement.{statement}
@@ -13,6 +15,10 @@ Inv-loop words₀ lines dims n structure fed k joins₀ done₀ words joins done
 
 abbrev μ-loop : tie.MeasureT-loop
 μ-loop words₀ lines dims n structure fed k joins₀ done₀ words joins done = k - done
+
+-- the leading dimensions are three
+three : (s : tie.Start Inv-loop μ-loop) → length (s .args .dims) ≡ 3
+three s = search needs
 
 returns : tie.Need-returns Inv-loop μ-loop
 returns c = block-idle _ _ _ _ _ _ _ (c .before .before .before .pre) (c .if1 .taken)
@@ -25,7 +31,7 @@ loop-holds c =
     let x = c .before .before in
     let s = x .before .before .before .before .before in
     let r = reset-ready _ _ _ _ _ _ _ (s .pre) _ (x .reset-block .ensures) (omega (arith, x .before .before .if1 .left)) in
-    (omega arith, going-none _ _ _ _ _ _ _ r (search needs) (reset-own _ _ _ _ _ _ _ (s .pre) _ (x .reset-block .ensures) (omega (arith, x .before .before .if1 .left))))
+    (omega arith, going-none _ _ _ _ _ _ _ r (three s) (reset-own _ _ _ _ _ _ _ (s .pre) _ (x .reset-block .ensures) (omega (arith, x .before .before .if1 .left))))
 
 add-union-line : tie.Need-add-union-line Inv-loop μ-loop
 add-union-line c = search needs
@@ -36,7 +42,7 @@ union-line-requires c κs =
     let s = x .before .before .before .before .before in
     let r = reset-ready _ _ _ _ _ _ _ (s .pre) _ (x .reset-block .ensures) (omega (arith, x .before .before .if1 .left)) in
     let l = c .before .before .loop in
-    going-ready _ _ _ _ _ _ _ r (search needs) (l .done) (omega (arith, c .before .loop-test .taken, x .before .before .if1 .left)) (l .words) (l .joins) (l .inv .1) (omega (arith, c .before .loop-test .taken))
+    going-ready _ _ _ _ _ _ _ r (three s) (l .done) (omega (arith, c .before .loop-test .taken, x .before .before .if1 .left)) (l .words) (l .joins) (l .inv .1) (omega (arith, c .before .loop-test .taken))
 
 loop-again : tie.Need-loop-again Inv-loop μ-loop
 loop-again c =
@@ -44,14 +50,14 @@ loop-again c =
     let s = x .before .before .before .before .before in
     let r = reset-ready _ _ _ _ _ _ _ (s .pre) _ (x .reset-block .ensures) (omega (arith, x .before .before .if1 .left)) in
     let l = c .before .before .before .before .before .loop in
-    (omega (arith, c .before .before .before .before .loop-test .taken), going-then _ _ _ _ _ _ _ r (search needs) (l .done) (omega (arith, c .before .before .before .before .loop-test .taken, x .before .before .if1 .left)) (l .words) (l .joins) (l .inv .1) (omega (arith, c .before .before .before .before .loop-test .taken)) _ _ (c .before .before .union-line .ensures))
+    (omega (arith, c .before .before .before .before .loop-test .taken), going-then _ _ _ _ _ _ _ r (three s) (l .done) (omega (arith, c .before .before .before .before .loop-test .taken, x .before .before .if1 .left)) (l .words) (l .joins) (l .inv .1) (omega (arith, c .before .before .before .before .loop-test .taken)) _ _ (c .before .before .union-line .ensures))
 
 add-joins : tie.Need-add-joins Inv-loop μ-loop
 add-joins c =
     let x = c .before .before .before .before .before .before .before .before in
     let s = x .before .before .before .before .before in
     let r = reset-ready _ _ _ _ _ _ _ (s .pre) _ (x .reset-block .ensures) (omega (arith, x .before .before .if1 .left)) in
-    let few = going-few _ _ _ _ _ _ _ r (search needs) (c .before .before .before .before .before .loop .done + 1) (omega (arith, c .before .before .before .before .loop-test .taken)) _ _ (loop-again c .1) in
+    let few = going-few _ _ _ _ _ _ _ r (three s) (c .before .before .before .before .before .loop .done + 1) (omega (arith, c .before .before .before .before .loop-test .taken)) _ _ (loop-again c .1) in
     record { fits = omega (arith, few, r .lines .room, x .reset-block .ensures .long, s .good) }
 
 add-done : tie.Need-add-done Inv-loop μ-loop
@@ -64,7 +70,7 @@ united : tie.Need-returns-2 Inv-loop μ-loop
 united c =
     let x = c .before .before .before .before in
     let l = c .before .loop in
-    block-united _ _ _ _ _ _ _ (x .before .before .before .before .before .pre) _ (x .reset-block .ensures) (omega (arith, x .before .before .if1 .left)) (search needs) (l .done) (l .inv .0) (c .loop-test .left) (l .words) (l .joins) (l .inv .1)
+    block-united _ _ _ _ _ _ _ (x .before .before .before .before .before .pre) _ (x .reset-block .ensures) (omega (arith, x .before .before .if1 .left)) (three (x .before .before .before .before .before)) (l .done) (l .inv .0) (c .loop-test .left) (l .words) (l .joins) (l .inv .1)
 
 same-length : tie.Need-same-length Inv-loop μ-loop
 same-length c = united c .long

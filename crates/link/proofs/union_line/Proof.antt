@@ -6,6 +6,7 @@ use Prim.Native.Nat.{ℕ, _+_, _-_, _/_, _^_, _≤_}
 use native.Mathlib.Numerals.{add-one}
 use native.Mathlib.Omega.{arith}
 use borrow.Author.Needs.{needs}
+use lib.ListN.{length}
 use Rattle.groups.specs.Groups.{Edge, gather}
 use Rattle.frame.specs.Words.{lineStart, storedRun}
 use Rattle.frame.specs.Touches.{touchesBy}
@@ -20,6 +21,10 @@ Inv-loop words₀ lines dims n structure line c count joins₀ k₀ words joins 
 
 abbrev μ-loop : tie.MeasureT-loop
 μ-loop words₀ lines dims n structure line c count joins₀ k₀ words joins k = count - k
+
+-- the leading dimensions are three
+three : (s : tie.Start Inv-loop μ-loop) → length (s .args .dims) ≡ 3
+three s = search needs
 
 mul-if1 : tie.Need-mul-if1 Inv-loop μ-loop
 mul-if1 c = search needs
@@ -40,7 +45,7 @@ returns : tie.Need-returns Inv-loop μ-loop
 returns c =
     let s = c .before .before .before .before .before in
     subst (λ (es : List Edge). UnitedIn (s .args .lines) (s .args .words .now) (s .args .words .now) (runsTo (s .args .words .now) (s .args .line)) es 0)
-    (sym (no-touches (s .args .n) (s .args .dims) (s .args .lines) (s .args .structure .now) (s .args .words .now) (s .args .line) (s .pre) (search needs) (c .if1 .taken ∙ ap (λ (x : ℕ). lineStart (s .args .words .now) x) (add-one (s .args .line)))))
+    (sym (no-touches (s .args .n) (s .args .dims) (s .args .lines) (s .args .structure .now) (s .args .words .now) (s .args .line) (s .pre) (three s) (c .if1 .taken ∙ ap (λ (x : ℕ). lineStart (s .args .words .now) x) (add-one (s .args .line)))))
     (in-none (s .args .lines) (s .args .words .now) (s .args .line) (s .pre .lines))
 
 coords-requires : tie.Need-coords-requires Inv-loop μ-loop
@@ -61,7 +66,7 @@ add-joins : tie.Need-add-joins Inv-loop μ-loop
 add-joins c =
     let s = c .before .before .before .before .before .before .before .before .before .before .before .before .before in
     let l = c .before .before .before .before .before .loop in
-    let most = joins-most (s .args .n) (s .args .dims) (s .args .lines) (s .args .structure .now) (s .args .words .now) (s .args .line) (s .pre) (search needs) (c .before .before .union-by .last .0) (l .k + 1) (l .joins + c .before .before .union-by .result) (touches-more (s .args .n) (s .args .dims) (s .args .lines) (s .args .structure .now) (s .args .words .now) (s .args .line) (s .pre) (search needs) (l .words) (l .k) (l .joins) (l .inv .1) (c .before .before .union-by .last .0) (c .before .before .union-by .result) (c .before .before .union-by .ensures)) in
+    let most = joins-most (s .args .n) (s .args .dims) (s .args .lines) (s .args .structure .now) (s .args .words .now) (s .args .line) (s .pre) (three s) (c .before .before .union-by .last .0) (l .k + 1) (l .joins + c .before .before .union-by .result) (touches-more (s .args .n) (s .args .dims) (s .args .lines) (s .args .structure .now) (s .args .words .now) (s .args .line) (s .pre) (three s) (l .words) (l .k) (l .joins) (l .inv .1) (c .before .before .union-by .last .0) (c .before .before .union-by .result) (c .before .before .union-by .ensures)) in
     omega (arith, most, s .pre .lines .room)
 
 add-k : tie.Need-add-k Inv-loop μ-loop
@@ -74,7 +79,7 @@ loop-again : tie.Need-loop-again Inv-loop μ-loop
 loop-again c =
     let s = c .before .before .before .before .before .before .before .before .before .before .before .before .before in
     let l = c .before .before .before .before .before .loop in
-    (search needs, touches-more (s .args .n) (s .args .dims) (s .args .lines) (s .args .structure .now) (s .args .words .now) (s .args .line) (s .pre) (search needs) (l .words) (l .k) (l .joins) (l .inv .1) (c .before .before .union-by .last .0) (c .before .before .union-by .result) (c .before .before .union-by .ensures))
+    (search needs, touches-more (s .args .n) (s .args .dims) (s .args .lines) (s .args .structure .now) (s .args .words .now) (s .args .line) (s .pre) (three s) (l .words) (l .k) (l .joins) (l .inv .1) (c .before .before .union-by .last .0) (c .before .before .union-by .result) (c .before .before .union-by .ensures))
 
 same-length : tie.Need-same-length Inv-loop μ-loop
 same-length c = let s = c .before .before .before .before .before .before .before .before .before in in-long (s .args .lines) (s .args .words .now) (c .before .loop .words) _ _ (c .before .loop .joins) (c .before .loop .inv .1) (omega (arith, s .pre .lines .room))
@@ -83,7 +88,7 @@ returns-2 : tie.Need-returns-2 Inv-loop μ-loop
 returns-2 c =
     let s = c .before .before .before .before .before .before .before .before .before in
     let l = c .before .loop in
-    subst (λ (es : List Edge). UnitedIn (s .args .lines) (s .args .words .now) (l .words) (runsTo (s .args .words .now) (s .args .line)) es (l .joins)) (ap (gather (touchesBy (leadingOf (s .args .n) (s .args .dims)) (s .args .structure .now) (lineStart (s .args .words .now)) (storedRun (s .args .lines) (s .args .words .now)) (s .args .line)) 0) (let e : l .k ≡ 3 ^ s .args .n / 2 = omega (arith, l .inv .0, c .loop-test .left, c .before .before .backward-count .ensures) in e) ∙ touches-all (s .args .n) (s .args .dims) (s .args .lines) (s .args .structure .now) (s .args .words .now) (s .args .line) (s .pre) (search needs)) (l .inv .1)
+    subst (λ (es : List Edge). UnitedIn (s .args .lines) (s .args .words .now) (l .words) (runsTo (s .args .words .now) (s .args .line)) es (l .joins)) (ap (gather (touchesBy (leadingOf (s .args .n) (s .args .dims)) (s .args .structure .now) (lineStart (s .args .words .now)) (storedRun (s .args .lines) (s .args .words .now)) (s .args .line)) 0) (let e : l .k ≡ 3 ^ s .args .n / 2 = omega (arith, l .inv .0, c .loop-test .left, c .before .before .backward-count .ensures) in e) ∙ touches-all (s .args .n) (s .args .dims) (s .args .lines) (s .args .structure .now) (s .args .words .now) (s .args .line) (s .pre) (three s)) (l .inv .1)
 
 pub union-line-spec : {M : Type 1} → statement M
 union-line-spec =
