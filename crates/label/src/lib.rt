@@ -9,8 +9,8 @@
 // The record is a value: a call takes it and hands it back. An enum holds no array, so an answer stands beside the record in a
 // struct. specs/Cases.antt gives document 01's number and values for each case.
 //
-// A call is a check and then the work: feed_check, read_check and sizes_check find the cause, and feed_sound_T, read_sound_T and
-// sizes_sound work on a record that is known to be sound.
+// A call is a check and then the work: feed_check, read_check and sizes_check find the cause, and what follows works on a record that
+// is known to be sound.
 ghost use mathlib.Core.Path.{_≡_};
 ghost use mathlib.Core.Bool.{Bool, false};
 ghost use mathlib.Core.List.{List, map};
@@ -23,12 +23,12 @@ ghost use Rattle.frame.specs.Plain.{fed, counted, unless};
 ghost use Rattle.geo.specs.Geometry.{GeoOf};
 ghost use Rattle.label.specs.Record.{shapeOf};
 ghost use Rattle.label.specs.Cases.{causeNumber, openNumber, checkNumber, feedAnswer, readAnswer};
-ghost use Rattle.label.specs.Sound.{Sound, sound};
-ghost use Rattle.label.specs.Held.{figuresOf, rootCount, numbersHeld, sizesHeld};
+ghost use Rattle.label.specs.Sound.{sound};
+ghost use Rattle.label.specs.Held.{figuresOf};
 ghost use Rattle.label.specs.Opening.{OpenPromise, openRecord, blank};
 ghost use Rattle.label.specs.Feeding.{feedCauseOf, FeedPromise};
-ghost use Rattle.label.specs.Reading.{withNames, readCauseOf, sizesCauseOf, ReadPromise, SizesPromise};
-ghost use Rattle.label.specs.Steps.{FeedAccepted, FeedExtracted, FeedDone, SomeExtracted, ReadAccepted};
+ghost use Rattle.label.specs.Reading.{readCauseOf, sizesCauseOf, ReadPromise, SizesPromise};
+ghost use Rattle.label.specs.Steps.{FeedExtracted, FeedDone, SomeExtracted};
 
 // Shape and structure, then lines fed, runs and joins, so far. Entries past the rank are 0 after an opening.
 pub struct Session {
@@ -284,46 +284,6 @@ impl Session {
         if check.failed() {
             return answer_feed(self, check);
         }
-        answer_feed(self.feed_sound_u8(words, k, cells), check)
-    }
-
-    pub fn feed_u16(self, words: &mut [u32], k: usize, cells: &[u16]) -> Fed
-        ensures { λ r. ⌜ FeedPromise self (now (words .entry)) k (map nz (now (cells .entry))) (feedAnswer (r .answer)) (r .session) (now (words .exit)) ⌝ }
-    {
-        let check = self.feed_check(words, k, cells.len());
-        if check.failed() {
-            return answer_feed(self, check);
-        }
-        answer_feed(self.feed_sound_u16(words, k, cells), check)
-    }
-
-    pub fn feed_i16(self, words: &mut [u32], k: usize, cells: &[i16]) -> Fed
-        ensures { λ r. ⌜ FeedPromise self (now (words .entry)) k (map nzℤ (now (cells .entry))) (feedAnswer (r .answer)) (r .session) (now (words .exit)) ⌝ }
-    {
-        let check = self.feed_check(words, k, cells.len());
-        if check.failed() {
-            return answer_feed(self, check);
-        }
-        answer_feed(self.feed_sound_i16(words, k, cells), check)
-    }
-
-    pub fn feed_f32(self, words: &mut [u32], k: usize, cells: &[f32]) -> Fed
-        ensures { λ r. ⌜ FeedPromise self (now (words .entry)) k (map nzF (now (cells .entry))) (feedAnswer (r .answer)) (r .session) (now (words .exit)) ⌝ }
-    {
-        let check = self.feed_check(words, k, cells.len());
-        if check.failed() {
-            return answer_feed(self, check);
-        }
-        answer_feed(self.feed_sound_f32(words, k, cells), check)
-    }
-}
-
-// Their work, on a record that is known to be sound and lines that the frame still has.
-impl Session {
-    fn feed_sound_u8(self, words: &mut [u32], k: usize, cells: &[u8]) -> Session
-        requires { ⌜ FeedAccepted self (now words) k (map nz (now cells)) ⌝ }
-        ensures { λ r. ⌜ FeedDone self (now (words .entry)) k (map nz (now (cells .entry))) r (now (words .exit)) ⌝ }
-    {
         let g = self.geometry();
         let runs = block::extract_block_u8(
             cells,
@@ -335,13 +295,16 @@ impl Session {
             self.runs,
             k,
         );
-        self.unite(words, k, runs)
+        answer_feed(self.unite(words, k, runs), check)
     }
 
-    fn feed_sound_u16(self, words: &mut [u32], k: usize, cells: &[u16]) -> Session
-        requires { ⌜ FeedAccepted self (now words) k (map nz (now cells)) ⌝ }
-        ensures { λ r. ⌜ FeedDone self (now (words .entry)) k (map nz (now (cells .entry))) r (now (words .exit)) ⌝ }
+    pub fn feed_u16(self, words: &mut [u32], k: usize, cells: &[u16]) -> Fed
+        ensures { λ r. ⌜ FeedPromise self (now (words .entry)) k (map nz (now (cells .entry))) (feedAnswer (r .answer)) (r .session) (now (words .exit)) ⌝ }
     {
+        let check = self.feed_check(words, k, cells.len());
+        if check.failed() {
+            return answer_feed(self, check);
+        }
         let g = self.geometry();
         let runs = block::extract_block_u16(
             cells,
@@ -353,13 +316,16 @@ impl Session {
             self.runs,
             k,
         );
-        self.unite(words, k, runs)
+        answer_feed(self.unite(words, k, runs), check)
     }
 
-    fn feed_sound_i16(self, words: &mut [u32], k: usize, cells: &[i16]) -> Session
-        requires { ⌜ FeedAccepted self (now words) k (map nzℤ (now cells)) ⌝ }
-        ensures { λ r. ⌜ FeedDone self (now (words .entry)) k (map nzℤ (now (cells .entry))) r (now (words .exit)) ⌝ }
+    pub fn feed_i16(self, words: &mut [u32], k: usize, cells: &[i16]) -> Fed
+        ensures { λ r. ⌜ FeedPromise self (now (words .entry)) k (map nzℤ (now (cells .entry))) (feedAnswer (r .answer)) (r .session) (now (words .exit)) ⌝ }
     {
+        let check = self.feed_check(words, k, cells.len());
+        if check.failed() {
+            return answer_feed(self, check);
+        }
         let g = self.geometry();
         let runs = block::extract_block_i16(
             cells,
@@ -371,13 +337,16 @@ impl Session {
             self.runs,
             k,
         );
-        self.unite(words, k, runs)
+        answer_feed(self.unite(words, k, runs), check)
     }
 
-    fn feed_sound_f32(self, words: &mut [u32], k: usize, cells: &[f32]) -> Session
-        requires { ⌜ FeedAccepted self (now words) k (map nzF (now cells)) ⌝ }
-        ensures { λ r. ⌜ FeedDone self (now (words .entry)) k (map nzF (now (cells .entry))) r (now (words .exit)) ⌝ }
+    pub fn feed_f32(self, words: &mut [u32], k: usize, cells: &[f32]) -> Fed
+        ensures { λ r. ⌜ FeedPromise self (now (words .entry)) k (map nzF (now (cells .entry))) (feedAnswer (r .answer)) (r .session) (now (words .exit)) ⌝ }
     {
+        let check = self.feed_check(words, k, cells.len());
+        if check.failed() {
+            return answer_feed(self, check);
+        }
         let g = self.geometry();
         let runs = block::extract_block_f32(
             cells,
@@ -389,9 +358,11 @@ impl Session {
             self.runs,
             k,
         );
-        self.unite(words, k, runs)
+        answer_feed(self.unite(words, k, runs), check)
     }
+}
 
+impl Session {
     // Unites the extracted lines with their neighbours, and gives the record afterwards. `runs` is the count of runs then.
     fn unite(self, words: &mut [u32], k: usize, runs: usize) -> Session
         requires { ⌜ SomeExtracted self k (now words) runs ⌝ }
@@ -453,7 +424,8 @@ impl Session {
         if check.failed() {
             return answer_read(self, check);
         }
-        self.read_sound_u8(words, out);
+        let g = self.geometry();
+        write::write_block_u8(words, g.lines, g.width, self.fed, out);
         answer_read(self, check)
     }
 
@@ -464,7 +436,8 @@ impl Session {
         if check.failed() {
             return answer_read(self, check);
         }
-        self.read_sound_u16(words, out);
+        let g = self.geometry();
+        write::write_block_u16(words, g.lines, g.width, self.fed, out);
         answer_read(self, check)
     }
 
@@ -475,35 +448,9 @@ impl Session {
         if check.failed() {
             return answer_read(self, check);
         }
-        self.read_sound_u32(words, out);
+        let g = self.geometry();
+        write::write_block_u32(words, g.lines, g.width, self.fed, out);
         answer_read(self, check)
-    }
-}
-
-// Their work, on a record that is known to be sound and into a kind that holds n.
-impl Session {
-    fn read_sound_u8(self, words: &mut [u32], out: &mut [u8])
-        requires { ⌜ ReadAccepted u8 self (now words) (length (now out)) ⌝ }
-        ensures { λ _. ⌜ (now (words .exit) ≡ withNames self (now (words .entry))) × (now (out .exit) ≡ numbersHeld self (now (words .entry)) u8) ⌝ }
-    {
-        let g = self.geometry();
-        write::write_block_u8(words, g.lines, g.width, self.fed, out)
-    }
-
-    fn read_sound_u16(self, words: &mut [u32], out: &mut [u16])
-        requires { ⌜ ReadAccepted u16 self (now words) (length (now out)) ⌝ }
-        ensures { λ _. ⌜ (now (words .exit) ≡ withNames self (now (words .entry))) × (now (out .exit) ≡ numbersHeld self (now (words .entry)) u16) ⌝ }
-    {
-        let g = self.geometry();
-        write::write_block_u16(words, g.lines, g.width, self.fed, out)
-    }
-
-    fn read_sound_u32(self, words: &mut [u32], out: &mut [u32])
-        requires { ⌜ ReadAccepted u32 self (now words) (length (now out)) ⌝ }
-        ensures { λ _. ⌜ (now (words .exit) ≡ withNames self (now (words .entry))) × (now (out .exit) ≡ numbersHeld self (now (words .entry)) u32) ⌝ }
-    {
-        let g = self.geometry();
-        write::write_block_u32(words, g.lines, g.width, self.fed, out)
     }
 }
 
@@ -546,15 +493,8 @@ impl Session {
         if check.failed() {
             return answer_read(self, check);
         }
-        self.sizes_sound(words, sizes);
-        answer_read(self, check)
-    }
-
-    fn sizes_sound(self, words: &mut [u32], sizes: &mut [u32])
-        requires { ⌜ Sound self (now words) × (length (now sizes) ≡ rootCount self (now words)) ⌝ }
-        ensures { λ _. ⌜ (now (words .exit) ≡ withNames self (now (words .entry))) × (now (sizes .exit) ≡ sizesHeld self (now (words .entry))) ⌝ }
-    {
         let g = self.geometry();
-        write::size_block(words, g.lines, self.runs, sizes)
+        write::size_block(words, g.lines, self.runs, sizes);
+        answer_read(self, check)
     }
 }

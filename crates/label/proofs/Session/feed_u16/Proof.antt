@@ -8,6 +8,7 @@ use lib.ListN.{length-map}
 use Rattle.frame.specs.Kinds.{nz}
 use Rattle.frame.proofs.PlainLaws.{unless-none}
 use Rattle.label.proofs.AcceptedLaws.{cause-accepted, done-promise}
+use Rattle.label.proofs.FeedBlockLaws.{feed-room, feed-extracted}
 use Rattle.label.proofs.RefusedLaws.{failed-some, passed-none, refused-feed}
 use Rattle.label.proofs.Session.feed_u16.Statement.{statement}
 use Rattle.label.proofs.Session.feed_u16.Tie as tie
@@ -31,12 +32,33 @@ returns c =
     let some = failed-some _ _ (c .before .before .failed .ensures) (c .before .if1 .taken) in
     refused-feed (s .self) (now (s .words)) (s .k) cells _ (c .before .before .before .feed-check .ensures cells (length-map (now (s .cells)) nz)) some _ _ (c .answer-feed .ensures .1) _ (c .answer-feed .ensures .0)
 
-feed-sound-u16-requires : tie.Need-feed-sound-u16-requires
-feed-sound-u16-requires c κs =
-    let s = c .before .before .before .before .before .before .before .args in
+geometry-requires : tie.Need-geometry-requires
+geometry-requires c κs =
+    let s = c .before .before .before .before .before .before .args in
     let cells = map nz (now (s .cells)) in
-    let none = passed-none _ _ (c .before .before .failed .ensures) (c .before .if1 .left) in
-    cause-accepted (s .self) (now (s .words)) (s .k) cells (sym (c .before .before .before .feed-check .ensures cells (length-map (now (s .cells)) nz)) ∙ none)
+    let none = passed-none _ _ (c .before .failed .ensures) (c .if1 .left) in
+    let given = cause-accepted (s .self) (now (s .words)) (s .k) cells (sym (c .before .before .feed-check .ensures cells (length-map (now (s .cells)) nz)) ∙ none) in
+    (given .is-sound .shape .ranked, given .is-sound .shape .limits)
+
+extract-block-u16-requires : tie.Need-extract-block-u16-requires
+extract-block-u16-requires c κs =
+    let s = c .before .before .before .before .before .before .before .before .before .args in
+    let cells = map nz (now (s .cells)) in
+    let none = passed-none _ _ (c .before .before .before .before .failed .ensures) (c .before .before .before .if1 .left) in
+    let given = cause-accepted (s .self) (now (s .words)) (s .k) cells (sym (c .before .before .before .before .before .feed-check .ensures cells (length-map (now (s .cells)) nz)) ∙ none) in
+    let g = c .before .before .geometry in
+    feed-room (s .self) (now (s .words)) (s .k) cells given (g .result) (g .ensures)
+
+unite-requires : tie.Need-unite-requires
+unite-requires c κs =
+    let s = c .before .before .before .before .before .before .before .before .before .before .before .before .before .args in
+    let cells = map nz (now (s .cells)) in
+    let none = passed-none _ _ (c .before .before .before .before .before .before .before .before .failed .ensures) (c .before .before .before .before .before .before .before .if1 .left) in
+    let given = cause-accepted (s .self) (now (s .words)) (s .k) cells (sym (c .before .before .before .before .before .before .before .before .before .feed-check .ensures cells (length-map (now (s .cells)) nz)) ∙ none) in
+    let g = c .before .before .before .before .before .before .geometry in
+    let x = c .before .before .before .extract-block-u16 in
+    let done = feed-extracted (s .self) (now (s .words)) (s .k) cells given (g .result) (g .ensures) (x .last .1 .1 .1 .0) (x .result) (x .ensures) in
+    record { words = now (s .words); cells = cells; extracted = done }
 
 answer-feed-requires-2 : tie.Need-answer-feed-requires-2
 answer-feed-requires-2 c κs = search needs
@@ -46,12 +68,15 @@ same-length-2 c = search needs
 
 returns-2 : tie.Need-returns-2
 returns-2 c =
-    let s = c .before .before .before .before .before .before .before .before .before .before .before .args in
+    let s = c .before .before .before .before .before .before .before .before .before .before .before .before .before .before .before .before .before .args in
     let cells = map nz (now (s .cells)) in
-    let none = passed-none _ _ (c .before .before .before .before .before .before .failed .ensures) (c .before .before .before .before .before .if1 .left) in
-    let given = cause-accepted (s .self) (now (s .words)) (s .k) cells (sym (c .before .before .before .before .before .before .before .feed-check .ensures cells (length-map (now (s .cells)) nz)) ∙ none) in
-    let f = c .before .before .before .feed-sound-u16 in
-    done-promise (s .self) (now (s .words)) (s .k) cells given (f .result) (f .last .1 .0) (f .ensures) _ (c .answer-feed2 .ensures .1 ∙ unless-none _ _ none) _ (c .answer-feed2 .ensures .0)
+    let none = passed-none _ _ (c .before .before .before .before .before .before .before .before .before .before .before .before .failed .ensures) (c .before .before .before .before .before .before .before .before .before .before .before .if1 .left) in
+    let given = cause-accepted (s .self) (now (s .words)) (s .k) cells (sym (c .before .before .before .before .before .before .before .before .before .before .before .before .before .feed-check .ensures cells (length-map (now (s .cells)) nz)) ∙ none) in
+    let g = c .before .before .before .before .before .before .before .before .before .before .geometry in
+    let x = c .before .before .before .before .before .before .before .extract-block-u16 in
+    let done = feed-extracted (s .self) (now (s .words)) (s .k) cells given (g .result) (g .ensures) (x .last .1 .1 .1 .0) (x .result) (x .ensures) in
+    let u = c .before .before .before .unite in
+    done-promise (s .self) (now (s .words)) (s .k) cells given (u .result) (u .last .1 .0) (u .ensures (now (s .words)) cells done) _ (c .answer-feed2 .ensures .1 ∙ unless-none _ _ none) _ (c .answer-feed2 .ensures .0)
 
 pub feed-u16-spec : {M : Type 1} → statement M
 feed-u16-spec =
@@ -62,7 +87,9 @@ feed-u16-spec =
     answer-feed-requires
     same-length
     returns
-    feed-sound-u16-requires
+    geometry-requires
+    extract-block-u16-requires
+    unite-requires
     answer-feed-requires-2
     same-length-2
     returns-2)

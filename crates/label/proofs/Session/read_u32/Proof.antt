@@ -9,6 +9,7 @@ use Rattle.frame.specs.Kinds.{u32, largest}
 use Rattle.frame.proofs.PlainLaws.{unless-none}
 use Rattle.label.proofs.AcceptedLaws.{cause-read, read-promise}
 use Rattle.label.proofs.RefusedLaws.{failed-some, failed-never, passed-none, refused-read}
+use Rattle.label.proofs.WrittenNumbers.{read-ready, read-done}
 use Rattle.label.proofs.FitLaws.{joins-fit}
 use Rattle.label.proofs.Session.read_u32.Statement.{statement}
 use Rattle.label.proofs.Session.read_u32.Tie as tie
@@ -36,16 +37,25 @@ returns c =
     let some = failed-some _ _ (c .before .before .failed .ensures) (c .before .if1 .taken) in
     refused-read u32 (s .self) (now (s .words)) (now (s .out)) _ (c .before .before .before .read-check .ensures u32 most) some _ _ (c .answer-read .ensures .1) _ (c .answer-read .ensures .0)
 
-read-sound-u32-requires : tie.Need-read-sound-u32-requires
-read-sound-u32-requires c κs =
-    let s = c .before .before .before .before .before .before .before .before .args in
-    let none = passed-none _ _ (c .before .before .before .failed .ensures) (c .before .before .if1 .left) in
-    cause-read u32 (s .self) (now (s .words)) (length (now (s .out))) (sym (c .before .before .before .before .read-check .ensures u32 most) ∙ none)
+geometry-requires : tie.Need-geometry-requires
+geometry-requires c κs =
+    let s = c .before .before .before .before .before .before .args in
+    let none = passed-none _ _ (c .before .failed .ensures) (c .if1 .left) in
+    let given = cause-read u32 (s .self) (now (s .words)) (length (now (s .out))) (sym (c .before .before .read-check .ensures u32 most) ∙ none) in
+    (given .is-sound .shape .ranked, given .is-sound .shape .limits)
+
+write-block-u32-requires : tie.Need-write-block-u32-requires
+write-block-u32-requires c κs =
+    let s = c .before .before .before .before .before .before .before .before .before .args in
+    let none = passed-none _ _ (c .before .before .before .before .failed .ensures) (c .before .before .before .if1 .left) in
+    let given = cause-read u32 (s .self) (now (s .words)) (length (now (s .out))) (sym (c .before .before .before .before .before .read-check .ensures u32 most) ∙ none) in
+    let g = c .before .before .geometry in
+    read-ready u32 (s .self) (now (s .words)) (length (now (s .out))) given (g .result) (g .ensures)
 
 answer-read-requires-2 : tie.Need-answer-read-requires-2
 answer-read-requires-2 c κs none =
-    let s = c .before .before .before .before .before .before .before .before .before .before .before .before .before .args in
-    joins-fit (s .self) (now (s .words)) (cause-read u32 (s .self) (now (s .words)) (length (now (s .out))) (sym (c .before .before .before .before .before .before .before .before .before .read-check .ensures u32 most) ∙ none) .is-sound)
+    let s = c .before .before .before .before .before .before .before .before .before .before .before .before .before .before .args in
+    joins-fit (s .self) (now (s .words)) (cause-read u32 (s .self) (now (s .words)) (length (now (s .out))) (sym (c .before .before .before .before .before .before .before .before .before .before .read-check .ensures u32 most) ∙ none) .is-sound)
 
 same-length-2 : tie.Need-same-length-2
 same-length-2 c = search needs
@@ -55,10 +65,13 @@ same-length-3 c = search needs
 
 returns-2 : tie.Need-returns-2
 returns-2 c =
-    let s = c .before .before .before .before .before .before .before .before .before .before .before .before .before .before .args in
-    let none = passed-none _ _ (c .before .before .before .before .before .before .before .before .before .failed .ensures) (c .before .before .before .before .before .before .before .before .if1 .left) in
-    let w = c .before .before .before .before .before .read-sound-u32 in
-    read-promise u32 (s .self) (now (s .words)) (now (s .out)) (sym (c .before .before .before .before .before .before .before .before .before .before .read-check .ensures u32 most) ∙ none) (w .last .1 .0) (w .last .1 .1 .0) (w .ensures) _ (c .answer-read2 .ensures .1 ∙ unless-none _ _ none) _ (c .answer-read2 .ensures .0)
+    let s = c .before .before .before .before .before .before .before .before .before .before .before .before .before .before .before .args in
+    let none = passed-none _ _ (c .before .before .before .before .before .before .before .before .before .before .failed .ensures) (c .before .before .before .before .before .before .before .before .before .if1 .left) in
+    let given = cause-read u32 (s .self) (now (s .words)) (length (now (s .out))) (sym (c .before .before .before .before .before .before .before .before .before .before .before .read-check .ensures u32 most) ∙ none) in
+    let g = c .before .before .before .before .before .before .before .before .geometry in
+    let w = c .before .before .before .before .before .write-block-u32 in
+    let done = read-done u32 (s .self) (now (s .words)) (length (now (s .out))) given (g .result) (g .ensures) (w .last .0) (now (s .out)) (w .last .1 .1 .1 .1 .0) refl (w .ensures) in
+    read-promise u32 (s .self) (now (s .words)) (now (s .out)) (sym (c .before .before .before .before .before .before .before .before .before .before .before .read-check .ensures u32 most) ∙ none) (w .last .0) (w .last .1 .1 .1 .1 .0) done _ (c .answer-read2 .ensures .1 ∙ unless-none _ _ none) _ (c .answer-read2 .ensures .0)
 
 pub read-u32-spec : {M : Type 1} → statement M
 read-u32-spec =
@@ -69,7 +82,8 @@ read-u32-spec =
     answer-read-requires
     same-length
     returns
-    read-sound-u32-requires
+    geometry-requires
+    write-block-u32-requires
     answer-read-requires-2
     same-length-2
     same-length-3

@@ -1,12 +1,13 @@
 -- `sizes` meets its promise: it is refused with the number that its check finds, and else counted.
 -- Assumes nothing.
-use mathlib.Core.Path.{sym, _∙_}
+use mathlib.Core.Path.{refl, sym, _∙_}
 use borrow.Author.Needs.{needs}
 use denote.Ref.{now}
 use lib.ListN.{length}
 use Rattle.frame.proofs.PlainLaws.{unless-none}
 use Rattle.label.proofs.AcceptedLaws.{cause-sizes, sizes-promise}
 use Rattle.label.proofs.RefusedLaws.{failed-some, failed-never, passed-none, refused-sizes}
+use Rattle.label.proofs.WrittenSizes.{counts-ready, counts-done}
 use Rattle.label.proofs.FitLaws.{joins-fit}
 use Rattle.label.proofs.Session.sizes.Statement.{statement}
 use Rattle.label.proofs.Session.sizes.Tie as tie
@@ -29,16 +30,25 @@ returns c =
     let some = failed-some _ _ (c .before .before .failed .ensures) (c .before .if1 .taken) in
     refused-sizes (s .self) (now (s .words)) (now (s .sizes)) _ (c .before .before .before .sizes-check .ensures) some _ _ (c .answer-read .ensures .1) _ (c .answer-read .ensures .0)
 
-sizes-sound-requires : tie.Need-sizes-sound-requires
-sizes-sound-requires c κs =
-    let s = c .before .before .before .before .before .before .before .before .args in
-    let none = passed-none _ _ (c .before .before .before .failed .ensures) (c .before .before .if1 .left) in
-    cause-sizes (s .self) (now (s .words)) (length (now (s .sizes))) (sym (c .before .before .before .before .sizes-check .ensures) ∙ none)
+geometry-requires : tie.Need-geometry-requires
+geometry-requires c κs =
+    let s = c .before .before .before .before .before .before .args in
+    let none = passed-none _ _ (c .before .failed .ensures) (c .if1 .left) in
+    let given = cause-sizes (s .self) (now (s .words)) (length (now (s .sizes))) (sym (c .before .before .sizes-check .ensures) ∙ none) in
+    (given .0 .shape .ranked, given .0 .shape .limits)
+
+size-block-requires : tie.Need-size-block-requires
+size-block-requires c κs =
+    let s = c .before .before .before .before .before .before .before .before .before .args in
+    let none = passed-none _ _ (c .before .before .before .before .failed .ensures) (c .before .before .before .if1 .left) in
+    let given = cause-sizes (s .self) (now (s .words)) (length (now (s .sizes))) (sym (c .before .before .before .before .before .sizes-check .ensures) ∙ none) in
+    let g = c .before .before .geometry in
+    counts-ready (s .self) (now (s .words)) (given .0) (length (now (s .sizes))) (given .1) (g .result) (g .ensures)
 
 answer-read-requires-2 : tie.Need-answer-read-requires-2
 answer-read-requires-2 c κs none =
-    let s = c .before .before .before .before .before .before .before .before .before .before .before .before .before .args in
-    joins-fit (s .self) (now (s .words)) (cause-sizes (s .self) (now (s .words)) (length (now (s .sizes))) (sym (c .before .before .before .before .before .before .before .before .before .sizes-check .ensures) ∙ none) .0)
+    let s = c .before .before .before .before .before .before .before .before .before .before .before .before .before .before .args in
+    joins-fit (s .self) (now (s .words)) (cause-sizes (s .self) (now (s .words)) (length (now (s .sizes))) (sym (c .before .before .before .before .before .before .before .before .before .before .sizes-check .ensures) ∙ none) .0)
 
 same-length-2 : tie.Need-same-length-2
 same-length-2 c = search needs
@@ -48,10 +58,13 @@ same-length-3 c = search needs
 
 returns-2 : tie.Need-returns-2
 returns-2 c =
-    let s = c .before .before .before .before .before .before .before .before .before .before .before .before .before .before .args in
-    let none = passed-none _ _ (c .before .before .before .before .before .before .before .before .before .failed .ensures) (c .before .before .before .before .before .before .before .before .if1 .left) in
-    let w = c .before .before .before .before .before .sizes-sound in
-    sizes-promise (s .self) (now (s .words)) (now (s .sizes)) (sym (c .before .before .before .before .before .before .before .before .before .before .sizes-check .ensures) ∙ none) (w .last .1 .0) (w .last .1 .1 .0) (w .ensures) _ (c .answer-read2 .ensures .1 ∙ unless-none _ _ none) _ (c .answer-read2 .ensures .0)
+    let s = c .before .before .before .before .before .before .before .before .before .before .before .before .before .before .before .args in
+    let none = passed-none _ _ (c .before .before .before .before .before .before .before .before .before .before .failed .ensures) (c .before .before .before .before .before .before .before .before .before .if1 .left) in
+    let given = cause-sizes (s .self) (now (s .words)) (length (now (s .sizes))) (sym (c .before .before .before .before .before .before .before .before .before .before .before .sizes-check .ensures) ∙ none) in
+    let g = c .before .before .before .before .before .before .before .before .geometry in
+    let w = c .before .before .before .before .before .size-block in
+    let done = counts-done (s .self) (now (s .words)) (given .0) (length (now (s .sizes))) (given .1) (g .result) (g .ensures) (w .last .0) (now (s .sizes)) (w .last .1 .1 .1 .0) refl (w .ensures) in
+    sizes-promise (s .self) (now (s .words)) (now (s .sizes)) (sym (c .before .before .before .before .before .before .before .before .before .before .before .sizes-check .ensures) ∙ none) (w .last .0) (w .last .1 .1 .1 .0) done _ (c .answer-read2 .ensures .1 ∙ unless-none _ _ none) _ (c .answer-read2 .ensures .0)
 
 pub sizes-spec : {M : Type 1} → statement M
 sizes-spec =
@@ -62,7 +75,8 @@ sizes-spec =
     answer-read-requires
     same-length
     returns
-    sizes-sound-requires
+    geometry-requires
+    size-block-requires
     answer-read-requires-2
     same-length-2
     same-length-3
