@@ -1,0 +1,25 @@
+-- `put_three` meets its contract: three numbers, one behind the other.
+-- Assumes nothing.
+use Rattle.frame.proofs.OverlayLaws.{adds-then}
+use borrow.Author.Needs.{needs}
+use Rattle.record_c.proofs.put_three.Statement.{statement}
+use Rattle.record_c.proofs.put_three.Tie as tie
+
+put-requires : tie.Need-put-requires
+put-requires c κs = tt
+
+put-requires-2 : tie.Need-put-requires-2
+put-requires-2 c κs = tt
+
+put-requires-3 : tie.Need-put-requires-3
+put-requires-3 c κs = tt
+
+same-length : tie.Need-same-length
+same-length c = search needs
+
+returns : tie.Need-returns
+returns c = adds-then (c .before .before .before .before .before .before .before .before .before .before .put .ensures) (adds-then (c .before .before .before .before .before .before .put2 .ensures) (c .before .before .put3 .ensures))
+
+pub put-three-spec : {M : Type 1} → statement M
+put-three-spec =
+    tie.close (tie.spec put-requires put-requires-2 put-requires-3 same-length returns)
