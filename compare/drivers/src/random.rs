@@ -1,4 +1,4 @@
-// A stream of numbers that is the same in every run (xorshift).
+//! A stream of numbers that is the same in every run (xorshift).
 pub struct Random(pub u64);
 
 impl Random {

@@ -1,0 +1,108 @@
+# Random frames to this repository's whole-frame calls and to scipy.ndimage.label: n and every number. Build and run it by ./scipy.
+import ctypes
+import sys
+from collections import Counter
+
+import numpy as np
+import scipy
+from scipy import ndimage
+
+CELLS = {"u8": np.uint8, "u16": np.uint16, "i16": np.int16, "f32": np.float32}
+NUMBERS = {"u8": np.uint8, "u16": np.uint16, "u32": np.uint32}
+# those of a float that a test for zero may get wrong: -0.0, NaN, the infinities, the least and another subnormal
+FLOATS = np.array([-0.0, np.nan, np.inf, -np.inf, 1e-45, -1e-40, 1.0], np.float32)
+REFUSED = 10
+
+
+def structure_of(r, rank):
+    """Symmetric about its middle; SciPy's own three times of ten."""
+    kind = r.integers(10)
+    if kind < 3:
+        return ndimage.generate_binary_structure(rank, int(r.integers(1, rank + 1)))
+    s = r.random((3,) * rank) < r.choice([0.05, 0.2, 0.5, 0.9])
+    return s | s[(slice(None, None, -1),) * rank]
+
+
+def shape_of(r, rank):
+    lead = [int(x) for x in r.integers(1, (0, 2, 8, 5, 4)[rank], rank - 1)]
+    style = r.integers(10)
+    if style < 5:
+        return lead + [int(r.integers(0, 10))]
+    if style < 9:
+        return lead[:1] + [1] * len(lead[1:]) + [int(r.choice([62, 63, 64, 65, 66, 127, 128, 129]))]
+    return [int(x) for x in r.integers(1, (0, 700, 40, 12, 6)[rank], rank)]
+
+
+def cells_of(r, shape, kind):
+    cells = r.random(shape) < r.choice([0, 0.02, 0.1, 0.3, 0.5, 0.7, 0.9, 1])
+    if kind == "f32":
+        odd = FLOATS[r.integers(0, len(FLOATS), shape)]
+        # a cell that is set may become -0.0, and one that is not as well
+        return np.where(cells, odd, np.where(r.random(shape) < 0.5, np.float32(0.0), np.float32(-0.0))).astype(np.float32)
+    values = r.integers(1, 256, shape) << (8 if kind != "u8" and r.integers(2) else 0)
+    return np.where(cells, values, 0).astype(CELLS[kind])
+
+
+def ours(lib, cells, structure, number, blocks):
+    """What is returned, n with runs and joins, and the output."""
+    shape = (ctypes.c_size_t * cells.ndim)(*cells.shape)
+    bytes_ = structure.astype(np.uint8).ravel()
+    lines, width = int(np.prod(cells.shape[:-1])), cells.shape[-1]
+    words = np.full(lines + 1 + 4 * lines * width, 0xABCDEF01, np.uint32)
+    out = np.full(cells.shape, 77, NUMBERS[number])
+    answer = np.full(4, 99, np.uint64)
+    kind = next(k for k, v in CELLS.items() if v == cells.dtype)
+    call = getattr(lib, f"label_frame_{kind}_{number}")
+    call.restype = ctypes.c_uint32
+    size, at = ctypes.c_size_t, lambda a: ctypes.c_void_p(a.ctypes.data)
+    returned = call(shape, size(cells.ndim), at(bytes_), size(bytes_.size), at(words), size(words.size), at(cells), size(cells.size),
+                    at(out), size(out.size), size(blocks), at(answer), size(4))
+    return returned, [int(x) for x in answer[:3]], out
+
+
+def scipys(cells, structure, number):
+    """n and the labels, or None if the kind is too narrow."""
+    try:
+        labels, n = ndimage.label(cells, structure, NUMBERS[number])
+        return n, labels
+    except RuntimeError as error:
+        assert "bit-depth" in str(error), error
+        return None
+
+
+def differs(lib, cells, structure, number, blocks):
+    returned, (n, runs, joins), out = ours(lib, cells, structure, number, blocks)
+    theirs = scipys(cells, structure, number)
+    if theirs is None:
+        return None if returned == REFUSED else f"SciPy refuses, ours returns {returned}"
+    if returned != 0:
+        return f"SciPy finds {theirs[0]}, ours returns {returned}"
+    if n != theirs[0] or runs != n + joins:
+        return f"SciPy finds {theirs[0]}, ours {n} with {runs} runs and {joins} joins"
+    return None if np.array_equal(out, theirs[1]) else "the numbers differ"
+
+
+def main():
+    lib = ctypes.CDLL(sys.argv[1])
+    seed = int(sys.argv[2]) if len(sys.argv) > 2 else 1
+    frames = int(sys.argv[3]) if len(sys.argv) > 3 else 30000
+    r = np.random.default_rng(seed)
+    seen, differed = Counter(), 0
+    for i in range(frames):
+        rank = 1 + i % 4
+        kind, number = list(CELLS)[i // 4 % 4], list(NUMBERS)[i // 16 % 3]
+        shape, structure = shape_of(r, rank), structure_of(r, rank)
+        cells = np.ascontiguousarray(cells_of(r, shape, kind))
+        blocks = int(r.integers(0, int(np.prod(shape[:-1])) + 2))
+        why = differs(lib, cells, structure, number, blocks)
+        seen.update([f"rank {rank}", f"cells {kind}", f"numbers {number}", "too narrow a kind" if scipys(cells, structure, number) is None else "numbered"])
+        if why:
+            differed += 1
+            if differed == 1:
+                print(f"the first difference: {why}\nshape {shape}, {kind} into {number}, {blocks} blocks\nstructure {structure.astype(int).tolist()}\ncells {cells.tolist()}")
+    print(f"SciPy {scipy.__version__}, seed {seed}; {frames} frames: " + ", ".join(f"{k} {v}" for k, v in sorted(seen.items())))
+    print(f"{differed} differed")
+    sys.exit(differed > 0)
+
+
+main()
