@@ -1,0 +1,298 @@
+// Replays stored answers of the Rust with no Rust at hand: each line of standard input is a whole frame with the answer that the Rust's
+// `label_impl` gave; the frame is labelled here, by crate whole, and n and every label are compared. Where the Rust declined, the call must be
+// refused with 10 and leave the output as it was. A line, of at most 1,500 bytes:
+//
+//     C N B RANK D0 .. D(rank-1) STRUCTURE CELLS ANSWER
+//
+// Fields are parted by one blank. C is u8, u16, i16 or f32, the kind of cell; N is u8, u16 or u32, the kind of number; B is the block
+// count; then come the rank and the dimensions. STRUCTURE is 3^rank characters 0 or 1; CELLS is one character a cell (see cells.rt), or
+// - where there are none. ANSWER is `none`, or n and the labels in C order.
+//
+// The file `stdin` beside src/ is made by `compare/answers FOLDER > crates/replay/stdin`, where FOLDER has the Rust's files.
+//
+// Printed are the answers, how many agreed and how many differed, the lines that do not have the form, the answers of each rank and those that
+// are `none`, and the numbers of the first line that differed and the first that does not have the form: 0 where there is none. A line whose
+// lengths do not fit its shape is refused by the call, and so differs.
+mod calls;
+mod cells;
+mod fields;
+mod report;
+
+use fields::value;
+use flood::less;
+use flood::plus;
+use trial::tally::add;
+use trial::tally::at;
+use trial::tally::set;
+
+// The entries of `state`: first what is printed, in its order; a rank's count stands RANKS after the rank, and an outcome's first line FIRST after its
+// count. Then the length of the line so far, and its number.
+const ANSWERS: usize = 1;
+
+const AGREED: usize = 2;
+
+const DIFFERED: usize = 3;
+
+const MALFORMED: usize = 4;
+
+const RANKS: usize = 4;
+
+const NONE: usize = 9;
+
+const FIRST: usize = 7;
+
+const LENGTH: usize = 20;
+
+const LINE: usize = 21;
+
+// What an output place holds before the call.
+const BEFORE: usize = 171;
+
+// ---- one answer
+
+fn get_u16(s: &[u16; 1500], i: usize) -> u16 {
+    if i < 1500 { s[i] } else { 0 }
+}
+
+// What an output place of a kind holds.
+fn place(kind: usize, x: &[u8; 1500], y: &[u16; 1500], z: &[u32; 1500], i: usize) -> usize {
+    match kind {
+        0 => flood::byte(x, i) as usize,
+        1 => get_u16(y, i) as usize,
+        _ => flood::get(z, i) as usize,
+    }
+}
+
+// What it should hold: the labels are the fields from `from` to before `to`.
+fn right(values: &[usize; 3200], from: usize, to: usize, i: usize) -> usize {
+    let k = plus(from, i);
+    if k < to { value(values, k) } else { BEFORE }
+}
+
+// How many places of an output hold something else than they should; one more where n is not what was answered.
+fn wrong(
+    values: &[usize; 3200],
+    rank: usize,
+    fields: usize,
+    kind: usize,
+    n: usize,
+    x: &[u8; 1500],
+    y: &[u16; 1500],
+    z: &[u32; 1500],
+) -> usize {
+    let mut count = (n != value(values, plus(rank, 6))) as usize;
+    let from = plus(rank, 7);
+    for i in 0..1500 {
+        let got = place(kind, x, y, z, i);
+        count = plus(count, (got != right(values, from, fields, i)) as usize);
+    }
+    count
+}
+
+// Labels the frame of a line. How much differs from what the line says.
+fn label(
+    values: &[usize; 3200],
+    rank: usize,
+    fields: usize,
+    kinds: usize,
+    structure: &[u8],
+    count: usize,
+    a: &[u8; 1500],
+    b: &[u16; 1500],
+    d: &[i16; 1500],
+    e: &[f32; 1500],
+    words: &mut [u32; 8192],
+) -> usize {
+    let mut x = [171u8; 1500];
+    let mut y = [171u16; 1500];
+    let mut z = [171u32; 1500];
+    let shape = samples::first_sizes(shape_of(values), rank);
+    let n = calls::label(
+        kinds,
+        shape,
+        structure,
+        words,
+        cells::first_u8(a, count),
+        cells::first_u16(b, count),
+        cells::first_i16(d, count),
+        cells::first_f32(e, count),
+        samples::lend_u8(&mut x, count),
+        samples::lend_u16(&mut y, count),
+        samples::lend_u32(&mut z, count),
+        values[2],
+    );
+    wrong(values, rank, fields, kinds % 8, calls::said(n), &x, &y, &z)
+}
+
+fn shape_of(values: &[usize; 3200]) -> &[usize] {
+    let t = &values[..];
+    &t[4..]
+}
+
+// A frame whose cells are these characters: its outcome.
+fn try_frame(
+    values: &[usize; 3200],
+    rank: usize,
+    fields: usize,
+    kinds: usize,
+    structure: &[u8],
+    s: &[u8],
+    words: &mut [u32; 8192],
+) -> usize {
+    let mut a = [0u8; 1500];
+    let mut b = [0u16; 1500];
+    let mut d = [0i16; 1500];
+    let mut e = [0.0f32; 1500];
+    if cells::make_cells(s, kinds / 8, &mut a, &mut b, &mut d, &mut e) != 0 {
+        return MALFORMED;
+    }
+    let wrong = label(
+        values,
+        rank,
+        fields,
+        kinds,
+        structure,
+        s.len(),
+        &a,
+        &b,
+        &d,
+        &e,
+        words,
+    );
+    if wrong == 0 { AGREED } else { DIFFERED }
+}
+
+// ---- lines
+
+// Whether there are as many labels as cells, or none with `none`, and kinds, block count and rank are such as they should be.
+fn is_formed(
+    values: &[usize; 3200],
+    kinds: usize,
+    rank: usize,
+    fields: usize,
+    cells: usize,
+) -> bool {
+    let labels = less(fields, plus(rank, 7));
+    if (kinds == fields::BAD) | (values[2] >= fields::EMPTY) {
+        return false;
+    }
+    if less(rank, 1) > 3 {
+        return false;
+    }
+    if value(values, plus(rank, 6)) == calls::NONE {
+        return labels == 0;
+    }
+    labels == cells
+}
+
+// Counts an answer by its rank, and `none`.
+fn count_answer(state: &mut [u64; 40], rank: usize, n: usize, outcome: usize) {
+    if outcome == MALFORMED {
+        return;
+    }
+    add(state, ANSWERS);
+    add(state, plus(rank, RANKS));
+    if n == calls::NONE {
+        add(state, NONE);
+    }
+}
+
+// A line's outcome, where its fields are so many.
+fn try_fields(
+    line: &[u8],
+    values: &[usize; 3200],
+    rank: usize,
+    fields: usize,
+    words: &mut [u32; 8192],
+) -> usize {
+    let mut structure = [0u8; 81];
+    let kinds = fields::kinds(values);
+    let s = fields::field(line, values, plus(rank, 5));
+    let bits = fields::field(line, values, plus(rank, 4));
+    if !is_formed(values, kinds, rank, fields, s.len()) {
+        return MALFORMED;
+    }
+    if cells::make_structure(bits, &mut structure) != 0 {
+        return MALFORMED;
+    }
+    let bytes = cells::first_bits(&structure, bits.len());
+    try_frame(values, rank, fields, kinds, bytes, s, words)
+}
+
+// Counts an outcome, and notes its first line unless it agreed.
+fn tell(state: &mut [u64; 40], outcome: usize) {
+    let first = plus(outcome, FIRST);
+    let line = at(state, LINE) as usize;
+    add(state, outcome);
+    if (outcome != AGREED) & (at(state, first) == 0) {
+        set(state, first, line);
+    }
+}
+
+fn try_line(line: &[u8], words: &mut [u32; 8192], state: &mut [u64; 40]) {
+    let mut values = [fields::EMPTY; 3200];
+    add(state, LINE);
+    let fields = fields::split(line, &mut values);
+    let rank = values[3];
+    let outcome = try_fields(line, &values, rank, fields, words);
+    count_answer(state, rank, value(&values, plus(rank, 6)), outcome);
+    tell(state, outcome);
+}
+
+// One byte more of the input: `line` has those of its line so far. What is past 1,600 is not kept: the line is too long as it is.
+fn push(line: &mut [u8; 1600], c: u8, words: &mut [u32; 8192], state: &mut [u64; 40]) {
+    let n = at(state, LENGTH) as usize;
+    if n < 1600 {
+        line[n] = c;
+        set(state, LENGTH, n + 1);
+    }
+    if c == 10 {
+        try_line(line_of(line, plus(n, 1)), words, state);
+        set(state, LENGTH, 0);
+    }
+}
+
+fn line_of(s: &[u8; 1600], n: usize) -> &[u8] {
+    let t = &s[..];
+    samples::first(t, n)
+}
+
+fn push_all(text: &[u8], line: &mut [u8; 1600], words: &mut [u32; 8192], state: &mut [u64; 40]) {
+    for i in 0..text.len() {
+        push(line, flood::byte(text, i), words, state);
+    }
+}
+
+// Reads on, and answers whether there may be more.
+fn read_some(line: &mut [u8; 1600], words: &mut [u32; 8192], state: &mut [u64; 40]) -> bool {
+    let mut text = io::large_buffer();
+    let n = io::read_full(0, &mut text);
+    push_all(&text[..n], line, words, state);
+    n == 65536
+}
+
+// Reads the input to its end. A proved loop has to end: so it counts its turns down, from a number that no run uses up.
+fn read_all(line: &mut [u8; 1600], words: &mut [u32; 8192], state: &mut [u64; 40]) {
+    let mut turns = u64::MAX;
+    while turns > 0 && read_some(line, words, state) {
+        turns -= 1;
+    }
+}
+
+// The memory is never cleared: each frame is labelled in words that the one before left.
+fn main() {
+    let mut line = [0u8; 1600];
+    let mut words = [7u32; 8192];
+    let mut state = [0u64; 40];
+    read_all(&mut line, &mut words, &mut state);
+    try_rest(&mut state);
+    report::report(&state);
+}
+
+// What stands after the last byte 10 does not have the form.
+fn try_rest(state: &mut [u64; 40]) {
+    if at(state, LENGTH) != 0 {
+        add(state, LINE);
+        tell(state, MALFORMED);
+    }
+}
