@@ -17,14 +17,25 @@ use Rattle.forest.specs.Forest.{grouping}
 use Rattle.forest.specs.Unions.{parentIn, Parents}
 use Rattle.forest.proofs.ForestLaws.{grouping-rep}
 use Rattle.forest.proofs.ResetLaws.{reset-grouping}
-use Rattle.link.specs.Lines.{leadingOf, runsTo, LineReady, UnitedIn}
+use Rattle.geo.specs.declared.Geo.{Geo}
+use Rattle.geo.specs.Geometry.{leadingOf}
+use Rattle.link.specs.Lines.{runsTo, LineReady, UnitedIn}
 use Rattle.link.proofs.PartLaws.{part-parents, starts-rise, in-others, in-parents, in-grouped, in-counted, in-long}
 use Rattle.link.proofs.TouchByLaws.{leading-size}
 use Rattle.block.specs.Blocks.{BlockReady, BlockUnited, ResetIn, touchesFrom}
 use Rattle.block.proofs.BlockResetLaws.{reset-start, reset-runs, reset-part}
 use Rattle.block.proofs.LineUnionLaws.{touches-stand, Going}
 
-module _ (n : ℕ) (dims : List ℕ) (L : ℕ) (structure ws : List ℕ) (fed k : ℕ) (R : BlockReady n dims L structure ws fed k) where
+module _ (g : Geo) (structure ws : List ℕ) (fed k : ℕ) (R : BlockReady (g .leads) (g .dims) (g .lines) structure ws fed k) where
+  abbrev n : ℕ
+  n = g .leads
+
+  abbrev dims : List ℕ
+  dims = g .dims
+
+  abbrev L : ℕ
+  L = g .lines
+
   abbrev a : ℕ
   a = lineStart ws fed
 
@@ -35,7 +46,7 @@ module _ (n : ℕ) (dims : List ℕ) (L : ℕ) (structure ws : List ℕ) (fed k 
   pub block-idle : k ≡ 0 → BlockUnited n dims L structure ws ws fed k 0
   block-idle e =
       let f : fed + k ≡ fed = omega arith in
-      let g : b ≡ a = ap (lineStart ws) f in
+      let same : b ≡ a = ap (lineStart ws) f in
       let z : touchesFrom n dims L structure ws fed k ≡ [] = subst (λ (x : ℕ). touchesFrom n dims L structure ws fed x ≡ []) (sym e) (unfold touches gather in refl) in
       let v : visit (touchesFrom n dims L structure ws fed k) (grouping (parentOf L ws) a) ≡ grouping (parentOf L ws) a = ap (λ (es : List Edge). visit es (grouping (parentOf L ws) a)) z ∙ (unfold visit in refl) in
       record {
@@ -62,7 +73,7 @@ module _ (n : ℕ) (dims : List ℕ) (L : ℕ) (structure ws : List ℕ) (fed k 
         go true t = let l = ltb-true r a t in omega (arith, X .others (parentPlace L r) (λ x c d e. omega arith), R .parents r l)
         go false t = omega (arith, X .own r (ltb-false r a t) h)
 
-    pub reset-ready : LineReady n dims L structure ws′ (fed + k - 1)
+    pub reset-ready : LineReady g structure ws′ (fed + k - 1)
     reset-ready = record {
       leading = R .leading;
       bytes = R .bytes;

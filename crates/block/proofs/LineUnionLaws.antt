@@ -15,10 +15,12 @@ use Rattle.frame.specs.Words.{parentPlace, lineStart, parentOf, storedRun}
 use Rattle.frame.specs.Touches.{touchesBy, touchesOf, touches}
 use Rattle.frame.proofs.TouchLaws.{nbrOf, nbr-earlier, touches-from, touches-split, by-same}
 use Rattle.forest.specs.Unions.{parentIn}
-use Rattle.link.specs.Lines.{leadingOf, runsTo, LinesReady, LineReady, UnitedIn, touchesIn}
+use Rattle.geo.specs.declared.Geo.{Geo}
+use Rattle.geo.specs.Geometry.{leadingOf}
+use Rattle.link.specs.Lines.{runsTo, LinesReady, LineReady, UnitedIn, touchesIn}
 use Rattle.link.proofs.PartLaws.{part-parents, part-ready, starts-rise, in-start, in-others, in-runs, in-none, in-ready, in-then}
 use Rattle.link.proofs.TouchByLaws.{leading-size}
-use Rattle.link.proofs.TurnLaws.{united-few}
+use Rattle.sweep.proofs.TurnLaws.{united-few}
 use Rattle.block.specs.Blocks.{touchesFrom}
 use Rattle.block.proofs.WideLaws.{united-wide}
 
@@ -29,7 +31,7 @@ module _ (ds structure : List ℕ) (S Z : ℕ → ℕ) (R Q : ℕ → Run) (b : 
   unfolding touchesOf
   line-stands ℓ h =
       gather-same (touchesBy ds structure S R ℓ) (touchesBy ds structure Z Q ℓ) 0 (3 ^ length ds)
-      (λ k z v. by-same ds structure S Z R Q ℓ k (omega arith) (λ m g. starts m (omega arith)) (λ m r g lo hi. ap (λ (f : ℕ → Run). f r) same))
+      (λ k z v. by-same ds structure S Z R Q ℓ k (omega arith) (λ m q. starts m (omega arith)) (λ m r q lo hi. ap (λ (f : ℕ → Run). f r) same))
 
   pub touches-stand : (a n : ℕ) → a + n ≤ b → touches ds structure S R a n ≡ touches ds structure Z Q a n
   unfolding touches
@@ -47,7 +49,16 @@ pub record Going (n : ℕ) (dims : List ℕ) (L : ℕ) (structure ws : List ℕ)
   pub united : UnitedIn L ws now (runsTo ws last) (touchesFrom n dims L structure ws fed i) t
   pub own : (r : ℕ) → lineStart ws (fed + i) ≤ r → r < runsTo ws last → parentOf L now r ≡ r
 
-module _ (n : ℕ) (dims : List ℕ) (L : ℕ) (structure ws : List ℕ) (fed last : ℕ) (R : LineReady n dims L structure ws last) (three : length dims ≡ 3) where
+module _ (g : Geo) (structure ws : List ℕ) (fed last : ℕ) (R : LineReady g structure ws last) (three : length (g .dims) ≡ 3) where
+  abbrev n : ℕ
+  n = g .leads
+
+  abbrev dims : List ℕ
+  dims = g .dims
+
+  abbrev L : ℕ
+  L = g .lines
+
   abbrev ds : List ℕ
   ds = leadingOf n dims
 
@@ -72,7 +83,7 @@ module _ (n : ℕ) (dims : List ℕ) (L : ℕ) (structure ws : List ℕ) (fed la
       let x = nbr-earlier ds structure (T .line) (T .lead) (omega (arith, T .line-high, R .lines .within, size-is)) (T .is-used) (T .has-nbr) in
       (omega (arith, T .r-high, rise (suc (T .line)) b (omega (arith, T .line-high)) l), omega (arith, T .s-high, rise (suc (nbrOf ds structure (lineStart ws) (storedRun L ws) (T .line) (T .lead))) b (omega (arith, x, T .line-high)) l)))
 
-  pub going-none : ((r : ℕ) → lineStart ws fed ≤ r → r < runsTo ws last → parentOf L ws r ≡ r) → Going n dims L structure ws fed last 0 ws 0
+  pub going-none : ((r : ℕ) → lineStart ws fed ≤ r → r < runsTo ws last → parentOf (g .lines) ws r ≡ r) → Going (g .leads) (g .dims) (g .lines) structure ws fed last 0 ws 0
   going-none own =
       let e : fed + 0 ≡ fed = omega arith in
       record { united = unfold touches gather in in-none L ws last (R .lines); own = λ r a h. own r (subst (λ (x : ℕ). lineStart ws x ≤ r) e a) h }
@@ -93,15 +104,15 @@ module _ (n : ℕ) (dims : List ℕ) (L : ℕ) (structure ws : List ℕ) (fed la
 
     -- the next line
     module _ (l : fed + i ≤ last) where
-      pub going-ready : LineReady n dims L structure now (fed + i)
+      pub going-ready : LineReady g structure now (fed + i)
       going-ready = record { leading = R .leading; bytes = R .bytes; lines = lines-fewer L now last ready (fed + i) l }
 
-      line-same : touchesIn n dims L structure now (fed + i) ≡ of (fed + i) 1
+      line-same : touchesIn g structure now (fed + i) ≡ of (fed + i) 1
       line-same =
           line-stands ds structure (lineStart now) (lineStart ws) (storedRun L now) (storedRun L ws) (suc last) same-start (in-runs L ws now N (of fed i) t (G .united)) (omega (arith, R .lines .within, size-is)) (fed + i) (omega arith)
-          ∙ (unfold touches gather in sym (append-nil (touchesIn n dims L structure ws (fed + i))))
+          ∙ (unfold touches gather in sym (append-nil (touchesIn g structure ws (fed + i))))
 
-      module _ (next : List ℕ) (u : ℕ) (F : UnitedIn L now next (runsTo now (fed + i)) (touchesIn n dims L structure now (fed + i)) u) where
+      module _ (next : List ℕ) (u : ℕ) (F : UnitedIn L now next (runsTo now (fed + i)) (touchesIn g structure now (fed + i)) u) where
         here : UnitedIn L now next (runsTo now (fed + i)) (of (fed + i) 1) u
         here = subst (λ (es : List Edge). UnitedIn L now next (runsTo now (fed + i)) es u) line-same F
 

@@ -12,8 +12,9 @@ use Rattle.frame.specs.Touches.{touches}
 use Rattle.frame.specs.Memory.{stride}
 use Rattle.frame.specs.Words.{linePlace, startPlace, endPlace, parentPlace, lineStart, parentOf, storedRun, NoParent}
 use Rattle.forest.specs.Forest.{rootOf, grouping}
-use Rattle.link.specs.Sweeps.{InOrder}
-use Rattle.link.specs.Lines.{leadingOf, ThreeDims}
+use Rattle.sweep.specs.Sweeps.{InOrder}
+use Rattle.geo.specs.declared.Geo.{Geo}
+use Rattle.geo.specs.Geometry.{leadingOf, ThreeDims}
 
 -- ---- extraction
 
@@ -43,6 +44,13 @@ pub record Block (left : Bool) (w L fed runs k : ℕ) (flags : List Bool) (ws ws
   pub lined : (i : ℕ) → i < k → lineStart ws′ (fed + suc i) ≡ runs + length (linesRuns left w flags (suc i))
   pub ran : (r : ℕ) → r < length (linesRuns left w flags k) → storedRun L ws′ (runs + r) ≡ getD (linesRuns left w flags k) r none
   pub others : (j : ℕ) → Unwritten L fed runs k (length (linesRuns left w flags k)) j → getD ws′ j 0 ≡ getD ws j 0
+
+-- both, of a frame of that geometry
+abbrev pub RoomFor : Geo → ℕ → ℕ → ℕ → List Bool → List ℕ → Type 0
+RoomFor g fed runs k flags ws = BlockRoom (g .left) (g .width) (g .lines) fed runs k flags ws
+
+abbrev pub Extracts : Geo → ℕ → ℕ → ℕ → List Bool → List ℕ → List ℕ → ℕ → Type 0
+Extracts g fed runs k flags ws ws′ n = Block (g .left) (g .width) (g .lines) fed runs k flags ws ws′ n
 
 -- ---- union
 
@@ -78,5 +86,6 @@ pub record BlockUnited (n : ℕ) (dims : List ℕ) (L : ℕ) (structure ws ws′
   pub parents : (r : ℕ) → r < lineStart ws (fed + k) → parentOf L ws′ r ≤ r
   pub grouped : (r : ℕ) → r < lineStart ws (fed + k)
       → rootOf (parentOf L ws′) r ≡ rep (visit (touchesFrom n dims L structure ws fed k) (grouping (parentOf L ws) (lineStart ws fed))) r
-  pub counted : t + joins (grouping (parentOf L ws) (lineStart ws fed)) ≡ joins (visit (touchesFrom n dims L structure ws fed k) (grouping (parentOf L ws) (lineStart ws fed)))
+  pub counted : t + joins (grouping (parentOf L ws) (lineStart ws fed))
+      ≡ joins (visit (touchesFrom n dims L structure ws fed k) (grouping (parentOf L ws) (lineStart ws fed)))
   pub no-lines : k ≡ 0 → ws′ ≡ ws

@@ -2,142 +2,125 @@
 //
 //     extract_block_T   the runs of new lines, for each kind of cell: line starts, starts and ends
 //     union_block       the union of new lines with their neighbours, once their runs are there: parents
-ghost use mathlib.Core.Bool.{not};
 ghost use mathlib.Core.List.{map};
 ghost use Rattle.frame.specs.Kinds.{nz, nzℤ, nzF};
-ghost use Rattle.block.specs.Blocks.{BlockRoom, Block, BlockReady, BlockUnited, ResetReady, ResetIn};
+ghost use Rattle.block.specs.Blocks.{RoomFor, Extracts, BlockReady, BlockUnited, ResetReady, ResetIn};
 
-// ---- extraction, for each kind of cell: the runs of `k` lines after `fed` lines with `runs` runs; how many runs there are then.
-// `split` says that the left byte is zero
+// ---- extraction, for each kind of cell: the runs of `k` lines after `fed` lines with `runs` runs; how many runs there are then
 
 pub fn extract_block_u8(
     cells: &[u8],
-    width: usize,
-    split: bool,
+    g: geo::Geo,
     words: &mut [u32],
-    lines: usize,
     fed: usize,
     runs: usize,
     k: usize,
 ) -> usize
-    requires { ⌜ BlockRoom (not split) width lines fed runs k (map nz (now cells)) (now words) ⌝ }
-    ensures { λ n. ⌜ Block (not split) width lines fed runs k (map nz (now (cells .entry))) (now (words .entry)) (now (words .exit)) n ⌝ }
+    requires { ⌜ RoomFor g fed runs k (map nz (now cells)) (now words) ⌝ }
+    ensures { λ n. ⌜ Extracts g fed runs k (map nz (now (cells .entry))) (now (words .entry)) (now (words .exit)) n ⌝ }
 {
-    let base = lines + 1;
-    let mut n = runs;
+    let base = g.lines + 1;
+    let mut count = runs;
     let mut i: usize = 0;
     while i < k {
-        let a = i * width;
-        let e = a + width;
-        n += runs::extract_line_u8(&cells[a..e], split, words, base + frame::STRIDE * n);
-        words[fed + i + 1] = n as u32;
+        let a = i * g.width;
+        let e = a + g.width;
+        count += runs::extract_line_u8(&cells[a..e], g.left, words, base + frame::STRIDE * count);
+        words[fed + i + 1] = count as u32;
         i += 1;
     }
-    n
+    count
 }
 
 pub fn extract_block_u16(
     cells: &[u16],
-    width: usize,
-    split: bool,
+    g: geo::Geo,
     words: &mut [u32],
-    lines: usize,
     fed: usize,
     runs: usize,
     k: usize,
 ) -> usize
-    requires { ⌜ BlockRoom (not split) width lines fed runs k (map nz (now cells)) (now words) ⌝ }
-    ensures { λ n. ⌜ Block (not split) width lines fed runs k (map nz (now (cells .entry))) (now (words .entry)) (now (words .exit)) n ⌝ }
+    requires { ⌜ RoomFor g fed runs k (map nz (now cells)) (now words) ⌝ }
+    ensures { λ n. ⌜ Extracts g fed runs k (map nz (now (cells .entry))) (now (words .entry)) (now (words .exit)) n ⌝ }
 {
-    let base = lines + 1;
-    let mut n = runs;
+    let base = g.lines + 1;
+    let mut count = runs;
     let mut i: usize = 0;
     while i < k {
-        let a = i * width;
-        let e = a + width;
-        n += runs::extract_line_u16(&cells[a..e], split, words, base + frame::STRIDE * n);
-        words[fed + i + 1] = n as u32;
+        let a = i * g.width;
+        let e = a + g.width;
+        count += runs::extract_line_u16(&cells[a..e], g.left, words, base + frame::STRIDE * count);
+        words[fed + i + 1] = count as u32;
         i += 1;
     }
-    n
+    count
 }
 
 pub fn extract_block_i16(
     cells: &[i16],
-    width: usize,
-    split: bool,
+    g: geo::Geo,
     words: &mut [u32],
-    lines: usize,
     fed: usize,
     runs: usize,
     k: usize,
 ) -> usize
-    requires { ⌜ BlockRoom (not split) width lines fed runs k (map nzℤ (now cells)) (now words) ⌝ }
-    ensures { λ n. ⌜ Block (not split) width lines fed runs k (map nzℤ (now (cells .entry))) (now (words .entry)) (now (words .exit)) n ⌝ }
+    requires { ⌜ RoomFor g fed runs k (map nzℤ (now cells)) (now words) ⌝ }
+    ensures { λ n. ⌜ Extracts g fed runs k (map nzℤ (now (cells .entry))) (now (words .entry)) (now (words .exit)) n ⌝ }
 {
-    let base = lines + 1;
-    let mut n = runs;
+    let base = g.lines + 1;
+    let mut count = runs;
     let mut i: usize = 0;
     while i < k {
-        let a = i * width;
-        let e = a + width;
-        n += runs::extract_line_i16(&cells[a..e], split, words, base + frame::STRIDE * n);
-        words[fed + i + 1] = n as u32;
+        let a = i * g.width;
+        let e = a + g.width;
+        count += runs::extract_line_i16(&cells[a..e], g.left, words, base + frame::STRIDE * count);
+        words[fed + i + 1] = count as u32;
         i += 1;
     }
-    n
+    count
 }
 
 pub fn extract_block_f32(
     cells: &[f32],
-    width: usize,
-    split: bool,
+    g: geo::Geo,
     words: &mut [u32],
-    lines: usize,
     fed: usize,
     runs: usize,
     k: usize,
 ) -> usize
-    requires { ⌜ BlockRoom (not split) width lines fed runs k (map nzF (now cells)) (now words) ⌝ }
-    ensures { λ n. ⌜ Block (not split) width lines fed runs k (map nzF (now (cells .entry))) (now (words .entry)) (now (words .exit)) n ⌝ }
+    requires { ⌜ RoomFor g fed runs k (map nzF (now cells)) (now words) ⌝ }
+    ensures { λ n. ⌜ Extracts g fed runs k (map nzF (now (cells .entry))) (now (words .entry)) (now (words .exit)) n ⌝ }
 {
-    let base = lines + 1;
-    let mut n = runs;
+    let base = g.lines + 1;
+    let mut count = runs;
     let mut i: usize = 0;
     while i < k {
-        let a = i * width;
-        let e = a + width;
-        n += runs::extract_line_f32(&cells[a..e], split, words, base + frame::STRIDE * n);
-        words[fed + i + 1] = n as u32;
+        let a = i * g.width;
+        let e = a + g.width;
+        count += runs::extract_line_f32(&cells[a..e], g.left, words, base + frame::STRIDE * count);
+        words[fed + i + 1] = count as u32;
         i += 1;
     }
-    n
+    count
 }
 
 // ---- union
 
 // Unites each of the `k` lines after the first `fed` with its neighbours; how many of those unions were joins. The new runs are at
 // first their own parents.
-pub fn union_block(
-    words: &mut [u32],
-    lines: usize,
-    dims: [usize; 3],
-    n: usize,
-    structure: &[u8],
-    fed: usize,
-    k: usize,
-) -> usize
-    requires { ⌜ BlockReady n dims lines (now structure) (now words) fed k ⌝ }
-    ensures { λ t. ⌜ BlockUnited n dims lines (now (structure .entry)) (now (words .entry)) (now (words .exit)) fed k t ⌝ }
+pub fn union_block(words: &mut [u32], g: geo::Geo, structure: &[u8], fed: usize, k: usize) -> usize
+    requires { ⌜ BlockReady (g .leads) (g .dims) (g .lines) (now structure) (now words) fed k ⌝ }
+    ensures { λ t. ⌜ BlockUnited (g .leads) (g .dims) (g .lines) (now (structure .entry))
+        (now (words .entry)) (now (words .exit)) fed k t ⌝ }
 {
     if k == 0 {
         return 0;
     }
-    reset_block(words, lines, fed, k);
+    reset_block(words, g.lines, fed, k);
     let mut joins: usize = 0;
     let mut done: usize = 0;
     while done < k {
-        joins += link::union_line(words, lines, dims, n, structure, fed + done);
+        joins += link::union_line(words, g, structure, fed + done);
         done += 1;
     }
     joins

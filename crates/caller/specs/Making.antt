@@ -3,7 +3,8 @@
 use mathlib.Core.Path.{_≡_}
 use mathlib.Core.List.{List, [], _∷_}
 use Prim.Native.Nat.{ℕ, _+_, _≤_, _<_}
-use lib.ListN.{getD}
+use lib.ListN.{length, getD, replicate}
+use denote.Ref.{now}
 use Rattle.frame.specs.Kinds.{Cells, flags}
 use Rattle.frame.specs.Plain.{feed, Answer, Answered}
 use Rattle.label.specs.declared.Session.{Session}
@@ -11,9 +12,9 @@ use Rattle.label.specs.Feeding.{FeedPromise}
 use Rattle.calls.specs.Trace.{Trace}
 use Rattle.caller.specs.declared.Going.{Going}
 use Rattle.caller.specs.declared.Four.{Four}
-use Rattle.caller.specs.CallList.{Entry, call, callsOf, woven}
+use Rattle.caller.specs.CallList.{Lent, Entry, call, entryOf, callsOf, woven}
 use Rattle.frame.specs.Overlay.{Adds}
-use Rattle.caller.specs.Rooms.{Rooms, roomsAfter}
+use Rattle.caller.specs.Rooms.{Rooms, roomsAfter, Slice}
 
 -- where a list of calls stands
 pub record Standing : Type 0 where
@@ -40,6 +41,19 @@ pub record Performs (entries : List Entry) (b a : Standing) : Type 0 where
 -- one entry leads from b to m: whatever the entries after it do from m on, they do with it from b on
 abbrev pub Steps : Entry → Standing → Standing → Type 0
 Steps e b m = (es : List Entry) (a : Standing) → Performs es m a → Performs (e ∷ es) b a
+
+-- the same of the words and the answers that a function was lent: it leads from g to h, and the rooms from before to after
+abbrev pub StepsIn : Entry → Going → Going → Slice ℕ → Rooms → Rooms → Slice ℕ → Type 0
+StepsIn e g h words before after answers =
+    Steps e (standing g (now (words .entry)) before (now (answers .entry))) (standing h (now (words .exit)) after (now (answers .exit)))
+
+-- what four numbers are
+abbrev pub entryAt : Lent → Four → Entry
+entryAt l e = entryOf l (e .code) (e .a) (e .b) (e .c)
+
+-- an output with v in each place
+abbrev pub filledWith : ℕ → Slice ℕ → List ℕ
+filledWith v out = replicate (length (now (out .entry))) v
 
 -- ---- feeds
 

@@ -11,10 +11,10 @@ ghost use lib.ListN.{length, getD, replicate};
 ghost use Rattle.frame.specs.Kinds.{u8, u16, u32};
 ghost use Rattle.frame.specs.Plain.{read, sizes, numbers, counts};
 ghost use Rattle.label.specs.Cases.{openNumber, feedAnswer, readAnswer};
-ghost use Rattle.caller.specs.CallList.{call, no-call, readEntry, sizesEntry, entryOf, decode, answerNumbers};
+ghost use Rattle.caller.specs.CallList.{call, no-call, readEntry, sizesEntry, decode, answerNumbers};
 ghost use Rattle.frame.specs.Overlay.{Adds};
-ghost use Rattle.caller.specs.Rooms.{Rooms, leaves, roomsOf, lentOf};
-ghost use Rattle.caller.specs.Making.{standing, fourAt, Performs, Steps, FeedOf, Feeds};
+ghost use Rattle.caller.specs.Rooms.{Rooms, leaves, roomsOf, roomsAtEntry, roomsAtExit, lentIn};
+ghost use Rattle.caller.specs.Making.{standing, fourAt, Performs, Steps, StepsIn, entryAt, filledWith, FeedOf, Feeds};
 ghost use Rattle.caller.specs.Made.{MadePromise};
 
 // The number that is written for what is no call.
@@ -175,7 +175,8 @@ fn fill_u32(out: &mut [u32], v: u32)
 
 // What is no call changes nothing.
 fn no_call(g: Going, answers: &mut [u64]) -> Going
-    ensures { λ r. ⌜ ((words : List ℕ) (rooms : Rooms) → Steps no-call (standing g words rooms (now (answers .entry))) (standing r words rooms (now (answers .exit)))) ⌝ }
+    ensures { λ r. ⌜ ((words : List ℕ) (rooms : Rooms)
+        → Steps no-call (standing g words rooms (now (answers .entry))) (standing r words rooms (now (answers .exit)))) ⌝ }
 {
     let next = put_four(answers, g.at, NO_CALL, 0, 0, 0);
     let session = g.session;
@@ -217,7 +218,9 @@ fn feed_kind(
     f32s: &[f32],
 ) -> label::Fed
     requires { ⌜ FeedOf e end (length (now u8s)) (length (now u16s)) (length (now i16s)) (length (now f32s)) ⌝ }
-    ensures { λ r. ⌜ ((rooms : Rooms) → Feeds (entryOf (lentOf (now (u8s .entry)) (now (u16s .entry)) (now (i16s .entry)) (now (f32s .entry)) rooms) (e .code) (e .a) (e .b) (e .c)) session (now (words .entry)) (feedAnswer (r .answer)) (r .session) (now (words .exit))) ⌝ }
+    ensures { λ r. ⌜ ((rooms : Rooms)
+        → Feeds (entryAt (lentIn u8s u16s i16s f32s rooms) e) session (now (words .entry))
+        (feedAnswer (r .answer)) (r .session) (now (words .exit))) ⌝ }
 {
     let code = e.code;
     let from = e.b;
@@ -241,7 +244,7 @@ fn feed_call(
     answers: &mut [u64],
 ) -> Going
     requires { ⌜ e .code < 4 ⌝ }
-    ensures { λ r. ⌜ ((rooms : Rooms) → Steps (entryOf (lentOf (now (u8s .entry)) (now (u16s .entry)) (now (i16s .entry)) (now (f32s .entry)) rooms) (e .code) (e .a) (e .b) (e .c)) (standing g (now (words .entry)) rooms (now (answers .entry))) (standing r (now (words .exit)) rooms (now (answers .exit)))) ⌝ }
+    ensures { λ r. ⌜ ((rooms : Rooms) → StepsIn (entryAt (lentIn u8s u16s i16s f32s rooms) e) g r words rooms rooms answers) ⌝ }
 {
     let places = cells_lent(e.code, u8s.len(), u16s.len(), i16s.len(), f32s.len());
     if !is_part(e.b, e.c, places) {
@@ -259,7 +262,8 @@ fn feed_call(
 
 // A reading into an output that is filled with v before; for each kind of number. Then the size call.
 fn read_u8(g: Going, words: &mut [u32], v: u8, out: &mut [u8], answers: &mut [u64]) -> Going
-    ensures { λ r. ⌜ ((rooms : Rooms) → Steps (call (read u8 (replicate (length (now (out .entry))) v))) (standing g (now (words .entry)) rooms (now (answers .entry))) (standing r (now (words .exit)) (leaves (numbers u8 (now (out .exit))) rooms) (now (answers .exit)))) ⌝ }
+    ensures { λ r. ⌜ ((rooms : Rooms)
+        → StepsIn (call (read u8 (filledWith v out))) g r words rooms (leaves (numbers u8 (now (out .exit))) rooms) answers) ⌝ }
 {
     fill_u8(out, v);
     let r = g.session.read_u8(words, out);
@@ -274,7 +278,8 @@ fn read_u8(g: Going, words: &mut [u32], v: u8, out: &mut [u8], answers: &mut [u6
 }
 
 fn read_u16(g: Going, words: &mut [u32], v: u16, out: &mut [u16], answers: &mut [u64]) -> Going
-    ensures { λ r. ⌜ ((rooms : Rooms) → Steps (call (read u16 (replicate (length (now (out .entry))) v))) (standing g (now (words .entry)) rooms (now (answers .entry))) (standing r (now (words .exit)) (leaves (numbers u16 (now (out .exit))) rooms) (now (answers .exit)))) ⌝ }
+    ensures { λ r. ⌜ ((rooms : Rooms)
+        → StepsIn (call (read u16 (filledWith v out))) g r words rooms (leaves (numbers u16 (now (out .exit))) rooms) answers) ⌝ }
 {
     fill_u16(out, v);
     let r = g.session.read_u16(words, out);
@@ -289,7 +294,8 @@ fn read_u16(g: Going, words: &mut [u32], v: u16, out: &mut [u16], answers: &mut 
 }
 
 fn read_u32(g: Going, words: &mut [u32], v: u32, out: &mut [u32], answers: &mut [u64]) -> Going
-    ensures { λ r. ⌜ ((rooms : Rooms) → Steps (call (read u32 (replicate (length (now (out .entry))) v))) (standing g (now (words .entry)) rooms (now (answers .entry))) (standing r (now (words .exit)) (leaves (numbers u32 (now (out .exit))) rooms) (now (answers .exit)))) ⌝ }
+    ensures { λ r. ⌜ ((rooms : Rooms)
+        → StepsIn (call (read u32 (filledWith v out))) g r words rooms (leaves (numbers u32 (now (out .exit))) rooms) answers) ⌝ }
 {
     fill_u32(out, v);
     let r = g.session.read_u32(words, out);
@@ -304,7 +310,8 @@ fn read_u32(g: Going, words: &mut [u32], v: u32, out: &mut [u32], answers: &mut 
 }
 
 fn sizes(g: Going, words: &mut [u32], v: u32, out: &mut [u32], answers: &mut [u64]) -> Going
-    ensures { λ r. ⌜ ((rooms : Rooms) → Steps (call (sizes (replicate (length (now (out .entry))) v))) (standing g (now (words .entry)) rooms (now (answers .entry))) (standing r (now (words .exit)) (leaves (counts (now (out .exit))) rooms) (now (answers .exit)))) ⌝ }
+    ensures { λ r. ⌜ ((rooms : Rooms)
+        → StepsIn (call (sizes (filledWith v out))) g r words rooms (leaves (counts (now (out .exit))) rooms) answers) ⌝ }
 {
     fill_u32(out, v);
     let r = g.session.sizes(words, out);
@@ -320,7 +327,9 @@ fn sizes(g: Going, words: &mut [u32], v: u32, out: &mut [u32], answers: &mut [u6
 
 // The same, in the first places of a room, where it has so many.
 fn read_call_u8(g: Going, words: &mut [u32], e: Four, room: &mut [u8], answers: &mut [u64]) -> Going
-    ensures { λ r. ⌜ ((room16 room32 : List ℕ) → Steps (readEntry u8 (length (now (room .entry))) (e .a) (e .b)) (standing g (now (words .entry)) (roomsOf (now (room .entry)) room16 room32) (now (answers .entry))) (standing r (now (words .exit)) (roomsOf (now (room .exit)) room16 room32) (now (answers .exit)))) ⌝ }
+    ensures { λ r. ⌜ ((room16 room32 : List ℕ)
+        → StepsIn (readEntry u8 (length (now (room .entry))) (e .a) (e .b)) g r words
+        (roomsOf (now (room .entry)) room16 room32) (roomsOf (now (room .exit)) room16 room32) answers) ⌝ }
 {
     let places = e.a;
     if places > room.len() {
@@ -336,7 +345,9 @@ fn read_call_u16(
     room: &mut [u16],
     answers: &mut [u64],
 ) -> Going
-    ensures { λ r. ⌜ ((room8 room32 : List ℕ) → Steps (readEntry u16 (length (now (room .entry))) (e .a) (e .b)) (standing g (now (words .entry)) (roomsOf room8 (now (room .entry)) room32) (now (answers .entry))) (standing r (now (words .exit)) (roomsOf room8 (now (room .exit)) room32) (now (answers .exit)))) ⌝ }
+    ensures { λ r. ⌜ ((room8 room32 : List ℕ)
+        → StepsIn (readEntry u16 (length (now (room .entry))) (e .a) (e .b)) g r words
+        (roomsOf room8 (now (room .entry)) room32) (roomsOf room8 (now (room .exit)) room32) answers) ⌝ }
 {
     let places = e.a;
     if places > room.len() {
@@ -352,7 +363,9 @@ fn read_call_u32(
     room: &mut [u32],
     answers: &mut [u64],
 ) -> Going
-    ensures { λ r. ⌜ ((room8 room16 : List ℕ) → Steps (readEntry u32 (length (now (room .entry))) (e .a) (e .b)) (standing g (now (words .entry)) (roomsOf room8 room16 (now (room .entry))) (now (answers .entry))) (standing r (now (words .exit)) (roomsOf room8 room16 (now (room .exit))) (now (answers .exit)))) ⌝ }
+    ensures { λ r. ⌜ ((room8 room16 : List ℕ)
+        → StepsIn (readEntry u32 (length (now (room .entry))) (e .a) (e .b)) g r words
+        (roomsOf room8 room16 (now (room .entry))) (roomsOf room8 room16 (now (room .exit))) answers) ⌝ }
 {
     let places = e.a;
     if places > room.len() {
@@ -368,7 +381,9 @@ fn read_call_u32(
 }
 
 fn sizes_call(g: Going, words: &mut [u32], e: Four, room: &mut [u32], answers: &mut [u64]) -> Going
-    ensures { λ r. ⌜ ((room8 room16 : List ℕ) → Steps (sizesEntry (length (now (room .entry))) (e .a) (e .b)) (standing g (now (words .entry)) (roomsOf room8 room16 (now (room .entry))) (now (answers .entry))) (standing r (now (words .exit)) (roomsOf room8 room16 (now (room .exit))) (now (answers .exit)))) ⌝ }
+    ensures { λ r. ⌜ ((room8 room16 : List ℕ)
+        → StepsIn (sizesEntry (length (now (room .entry))) (e .a) (e .b)) g r words
+        (roomsOf room8 room16 (now (room .entry))) (roomsOf room8 room16 (now (room .exit))) answers) ⌝ }
 {
     let places = e.a;
     if places > room.len() {
@@ -397,7 +412,8 @@ fn make_call(
     out32: &mut [u32],
     answers: &mut [u64],
 ) -> Going
-    ensures { λ r. ⌜ Steps (entryOf (lentOf (now (u8s .entry)) (now (u16s .entry)) (now (i16s .entry)) (now (f32s .entry)) (roomsOf (now (out8 .entry)) (now (out16 .entry)) (now (out32 .entry)))) (e .code) (e .a) (e .b) (e .c)) (standing g (now (words .entry)) (roomsOf (now (out8 .entry)) (now (out16 .entry)) (now (out32 .entry))) (now (answers .entry))) (standing r (now (words .exit)) (roomsOf (now (out8 .exit)) (now (out16 .exit)) (now (out32 .exit))) (now (answers .exit))) ⌝ }
+    ensures { λ r. ⌜ StepsIn (entryAt (lentIn u8s u16s i16s f32s (roomsAtEntry out8 out16 out32)) e) g r words
+        (roomsAtEntry out8 out16 out32) (roomsAtExit out8 out16 out32) answers ⌝ }
 {
     let code = e.code;
     if code < 4 {
@@ -439,7 +455,9 @@ fn call_list(
     out32: &mut [u32],
     answers: &mut [u64],
 ) -> Going
-    ensures { λ r. ⌜ Performs (decode (lentOf (now (u8s .entry)) (now (u16s .entry)) (now (i16s .entry)) (now (f32s .entry)) (roomsOf (now (out8 .entry)) (now (out16 .entry)) (now (out32 .entry)))) (now (list .entry))) (standing (record { session = session; at = 0 }) (now (words .entry)) (roomsOf (now (out8 .entry)) (now (out16 .entry)) (now (out32 .entry))) (now (answers .entry))) (standing r (now (words .exit)) (roomsOf (now (out8 .exit)) (now (out16 .exit)) (now (out32 .exit))) (now (answers .exit))) ⌝ }
+    ensures { λ r. ⌜ Performs (decode (lentIn u8s u16s i16s f32s (roomsAtEntry out8 out16 out32)) (now (list .entry)))
+        (standing (record { session = session; at = 0 }) (now (words .entry)) (roomsAtEntry out8 out16 out32) (now (answers .entry)))
+        (standing r (now (words .exit)) (roomsAtExit out8 out16 out32) (now (answers .exit))) ⌝ }
 {
     let mut g = Going { session, at: 0 };
     let mut i = 0;
@@ -481,7 +499,10 @@ pub fn make_calls(
     out32: &mut [u32],
     answers: &mut [u64],
 ) -> Made
-    ensures { λ r. ⌜ MadePromise (now (shape .entry)) (now (structure .entry)) (now (words .entry)) (decode (lentOf (now (u8s .entry)) (now (u16s .entry)) (now (i16s .entry)) (now (f32s .entry)) (roomsOf (now (out8 .entry)) (now (out16 .entry)) (now (out32 .entry)))) (now (list .entry))) (roomsOf (now (out8 .entry)) (now (out16 .entry)) (now (out32 .entry))) (now (answers .entry)) (openNumber (r .opening)) (r .places) (now (words .exit)) (roomsOf (now (out8 .exit)) (now (out16 .exit)) (now (out32 .exit))) (now (answers .exit)) ⌝ }
+    ensures { λ r. ⌜ MadePromise (now (shape .entry)) (now (structure .entry)) (now (words .entry))
+        (decode (lentIn u8s u16s i16s f32s (roomsAtEntry out8 out16 out32)) (now (list .entry)))
+        (roomsAtEntry out8 out16 out32) (now (answers .entry))
+        (openNumber (r .opening)) (r .places) (now (words .exit)) (roomsAtExit out8 out16 out32) (now (answers .exit)) ⌝ }
 {
     let o = label::Session::open(shape, structure, words);
     let opening = o.answer;

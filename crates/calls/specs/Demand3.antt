@@ -69,7 +69,8 @@ module _ (shape : List ℕ) where
     -- whatever the promises allow after the list, on the record and the words that it left. `size shape` is L × w
     pub record Afterwards (s : Session) (ws : List ℕ) : Type 0 where
       pub reads : (kind : Number) (out : List (Value kind)) → length out ≡ size shape → n ≤ largest kind
-          → (a : Answer) (s′ : Session) (ws′ : List ℕ) (out′ : List (Value kind)) → ReadPromise kind s ws out a s′ ws′ out′ → Reads kind a out′
+          → (a : Answer) (s′ : Session) (ws′ : List ℕ) (out′ : List (Value kind))
+          → ReadPromise kind s ws out a s′ ws′ out′ → Reads kind a out′
       pub sizes : (out : List ℕ) → length out ≡ n
           → (a : Answer) (s′ : Session) (ws′ out′ : List ℕ) → SizesPromise s ws out a s′ ws′ out′ → Sizes a out′
 

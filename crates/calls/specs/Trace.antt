@@ -16,7 +16,8 @@ pub data Trace : Session → List ℕ → List Call → List Answered → Sessio
       → FeedPromise s ws k (flags cells) a s′ ws′
       → Trace s′ ws′ cs az s″ ws″
       → Trace s ws (feed k cells ∷ cs) (record { said = a; written = nothing } ∷ az) s″ ws″
-  by-read : {s s′ s″ : Session} {ws ws′ ws″ : List ℕ} {kind : Number} {out out′ : List (Value kind)} {a : Answer} {cs : List Call} {az : List Answered}
+  by-read : {s s′ s″ : Session} {ws ws′ ws″ : List ℕ} {kind : Number} {out out′ : List (Value kind)}
+      {a : Answer} {cs : List Call} {az : List Answered}
       → ReadPromise kind s ws out a s′ ws′ out′
       → Trace s′ ws′ cs az s″ ws″
       → Trace s ws (read kind out ∷ cs) (record { said = a; written = numbers kind out′ } ∷ az) s″ ws″

@@ -1,57 +1,143 @@
-// Makes long random lists of calls by caller::make_calls, refused ones and no calls among them, and compares every number of the answers with a plain
-// session over the flood fill.
+// Makes long random lists of calls by caller::make_calls, refused ones and no calls among them, and compares every number of the answers
+// with a plain session over the flood fill.
 mod plain;
 
+use flood::Count;
 use flood::Extent;
-use flood::below;
 use flood::plus;
 use flood::times;
 use plain::Call;
-use trial::tally;
+use samples::below;
+use samples::next;
+use samples::tally;
+use trial::answers;
+use trial::answers::Answer;
+
+// Entries of the counts: lists stand at TRIED, and then calls; what is no call follows the refusals.
+const CALLS: usize = 4;
+
+const NO_CALLS: usize = 35;
 
 // ---- the list, and what it should answer
 
-fn put_number(list: &mut [usize; 256], i: usize, x: usize) {
-    if i < 256 {
-        list[i] = x;
-    }
+// Where the plain session stands: the lines fed, and the count of numbers answered.
+struct Standing {
+    fed: usize,
+    at: usize,
 }
 
 fn put_call(list: &mut [usize; 256], i: usize, call: Call) {
-    let at = times(4, i);
-    put_number(list, at, call.code);
-    put_number(list, plus(at, 1), call.a);
-    put_number(list, plus(at, 2), call.b);
-    put_number(list, plus(at, 3), call.c);
+    if i < 64 {
+        list[4 * i] = call.code;
+        list[4 * i + 1] = call.a;
+        list[4 * i + 2] = call.b;
+        list[4 * i + 3] = call.c;
+    }
+}
+
+fn say(wanted: &mut [u64; 16384], at: usize, answer: Answer) {
+    if at < 16380 {
+        wanted[at] = answer.number as u64;
+        wanted[at + 1] = answer.a as u64;
+        wanted[at + 2] = answer.b as u64;
+        wanted[at + 3] = answer.c as u64;
+    }
+}
+
+// An output of so many places: what was written, or what it held before.
+fn say_places(
+    wanted: &mut [u64; 16384],
+    from: usize,
+    right: &[u32],
+    before: u64,
+    accepted: bool,
+    places: usize,
+) {
+    for i in 0..places {
+        let x = if accepted {
+            flood::get(right, i) as u64
+        } else {
+            before
+        };
+        let at = plus(from, i);
+        if at < 16384 {
+            wanted[at] = x;
+        }
+    }
 }
 
 // A reading writes numbers, the size call sizes.
-fn read_call(
-    e: Extent,
-    frame: &[u8; 640],
-    numbers: &[u32; 640],
-    n: usize,
+fn say_output(
     call: Call,
+    marks: &[u32; 1920],
+    fed: usize,
     wanted: &mut [u64; 16384],
-    state: &mut [u64; 40],
+    from: usize,
+    accepted: bool,
 ) {
     let mut sizes = [0u32; 640];
-    if call.code < 7 {
-        plain::read(
-            e,
-            frame,
-            numbers,
-            call,
-            times(e.lines, e.width),
-            n,
-            wanted,
-            state,
-        );
+    if call.code == 7 {
+        flood::count_cells(marks, fed, &mut sizes);
+        say_places(wanted, from, &sizes, plain::held(call), accepted, call.a);
         return;
     }
-    let fed = tally::at(state, tally::FED) as usize;
-    flood::count_cells(numbers, times(fed, e.width), &mut sizes);
-    plain::read(e, frame, &sizes, call, n, n, wanted, state);
+    say_places(wanted, from, marks, plain::held(call), accepted, call.a);
+}
+
+// What a call should answer.
+fn answer_to(
+    e: Extent,
+    structure: &[u8],
+    cells: &[u8; 640],
+    frame: &mut [u8; 640],
+    call: Call,
+    count: Count,
+    fed: usize,
+) -> Answer {
+    if call.code < 4 {
+        return plain::feed(e, structure, cells, frame, call, fed);
+    }
+    if call.code < 8 {
+        return plain::read(call, plain::exact_places(e, call.code, count.n), count);
+    }
+    answers::refused(plain::NO_CALL)
+}
+
+// The answer, and for a reading or a size call, unless it is no call, the places of its output. Where the session stands then.
+fn say_all(
+    e: Extent,
+    call: Call,
+    answer: Answer,
+    marks: &[u32; 1920],
+    now: Standing,
+    wanted: &mut [u64; 16384],
+) -> Standing {
+    let accepted = answer.number == 0;
+    let next = plus(now.at, 4);
+    say(wanted, now.at, answer);
+    if call.code < 4 {
+        let fed = if accepted { answer.a } else { now.fed };
+        return Standing { fed, at: next };
+    }
+    if answer.number == plain::NO_CALL {
+        return Standing {
+            fed: now.fed,
+            at: next,
+        };
+    }
+    say_output(call, marks, times(now.fed, e.width), wanted, next, accepted);
+    Standing {
+        fed: now.fed,
+        at: plus(next, call.a),
+    }
+}
+
+fn count_answer(state: &mut [u64; 40], number: usize) {
+    if number == plain::NO_CALL {
+        tally::add(state, NO_CALLS);
+        return;
+    }
+    tally::add(state, plus(tally::REFUSED, number));
 }
 
 fn one_call(
@@ -62,87 +148,89 @@ fn one_call(
     list: &mut [usize; 256],
     i: usize,
     wanted: &mut [u64; 16384],
+    now: Standing,
     state: &mut [u64; 40],
-) {
-    let mut numbers = [0u32; 640];
-    let mut queue = [0u32; 640];
-    let fed = tally::at(state, tally::FED) as usize;
-    let n = flood::number_cells(
-        e,
-        structure,
-        frame,
-        times(fed, e.width),
-        &mut numbers,
-        &mut queue,
-    );
-    let call = plain::draw(e, n, state);
+) -> Standing {
+    let mut marks = [0u32; 1920];
+    let count = flood::number_cells(e, structure, frame, times(now.fed, e.width), &mut marks);
+    let call = plain::draw(e, now.fed, count.n, tally::random(state));
     put_call(list, i, call);
-    tally::add(state, plain::CALLS);
-    if call.code < 4 {
-        plain::feed(e, structure, cells, frame, call, wanted, state);
-        return;
-    }
-    if call.code < 8 {
-        read_call(e, frame, &numbers, n, call, wanted, state);
-        return;
-    }
-    plain::say_four(wanted, 101, 0, 0, 0, state);
+    let answer = answer_to(e, structure, cells, frame, call, count, now.fed);
+    tally::add(state, CALLS);
+    count_answer(state, answer.number);
+    say_all(e, call, answer, &marks, now, wanted)
 }
 
+// Gives the count of numbers answered.
 fn all_calls(
     e: Extent,
     structure: &[u8],
     cells: &[u8; 640],
-    frame: &mut [u8; 640],
     list: &mut [usize; 256],
     count: usize,
     wanted: &mut [u64; 16384],
     state: &mut [u64; 40],
-) {
+) -> usize {
+    let mut frame = [0u8; 640];
+    let mut now = Standing { fed: 0, at: 0 };
     for i in 0..count {
-        one_call(e, structure, cells, frame, list, i, wanted, state);
+        now = one_call(e, structure, cells, &mut frame, list, i, wanted, now, state);
     }
+    now.at
 }
 
 // Numbers left over at the end of a list are no call.
-fn say_rest(rest: usize, wanted: &mut [u64; 16384], state: &mut [u64; 40]) {
-    if rest != 0 {
-        plain::say_four(wanted, 101, 0, 0, 0, state);
+fn say_rest(rest: usize, at: usize, wanted: &mut [u64; 16384], state: &mut [u64; 40]) -> usize {
+    if rest == 0 {
+        return at;
     }
+    say(wanted, at, answers::refused(plain::NO_CALL));
+    count_answer(state, plain::NO_CALL);
+    plus(at, 4)
 }
 
 // ---- the calls made
 
-fn answers_differ(a: &[u64; 16384], b: &[u64; 16384]) -> usize {
-    let mut count = 0;
+fn answers_alike(a: &[u64; 16384], b: &[u64; 16384]) -> bool {
+    let mut alike = true;
     for i in 0..16384 {
-        count = plus(count, differ(a, b, i));
+        alike = alike & (a[i] == b[i]);
     }
-    count
+    alike
 }
 
-fn differ(a: &[u64; 16384], b: &[u64; 16384], i: usize) -> usize {
-    if i < 16384 {
-        return (a[i] != b[i]) as usize;
-    }
-    0
-}
-
-fn compare(
-    r: caller::Made,
-    cause: usize,
-    answers: &[u64; 16384],
-    wanted: &[u64; 16384],
-    state: &mut [u64; 40],
-) {
-    let opening = r.opening;
-    tally::expect(state, trial::answers::opening(opening) == cause);
-    tally::expect(state, r.places == tally::at(state, plain::AT) as usize);
-    tally::expect(state, answers_differ(answers, wanted) == 0);
-}
-
-// Makes the calls of the list, and compares.
 fn make(
+    shape: &[usize],
+    structure: &[u8],
+    words: &mut [u32],
+    list: &[usize],
+    u8s: &[u8; 640],
+    u16s: &[u16; 640],
+    i16s: &[i16; 640],
+    f32s: &[f32; 640],
+    answers: &mut [u64; 16384],
+) -> caller::Made {
+    let mut x = [0u8; 640];
+    let mut y = [0u16; 640];
+    let mut z = [0u32; 640];
+    caller::make_calls(
+        shape,
+        structure,
+        words,
+        list,
+        u8s,
+        u16s,
+        i16s,
+        f32s,
+        &mut x,
+        &mut y,
+        &mut z,
+        answers,
+    )
+}
+
+// Makes the calls of the list, and compares: an opening refused with this cause, or accepted, and then so many numbers.
+fn make_alike(
     shape: &[usize],
     structure: &[u8],
     memory: usize,
@@ -150,103 +238,84 @@ fn make(
     list: &[usize; 256],
     used: usize,
     cause: usize,
+    count: usize,
     wanted: &[u64; 16384],
-    state: &mut [u64; 40],
-) {
+) -> bool {
     let mut words = [7u32; 3201];
     let mut u16s = [0u16; 640];
     let mut i16s = [0i16; 640];
     let mut f32s = [0.0f32; 640];
-    let mut out8 = [0u8; 640];
-    let mut out16 = [0u16; 640];
-    let mut out32 = [0u32; 640];
-    let mut answers = [77u64; 16384];
-    samples::make_u16(cells, &mut u16s);
-    samples::make_i16(cells, &mut i16s);
-    samples::make_f32(cells, &mut f32s);
+    let mut given = [77u64; 16384];
+    samples::make_cells(cells, &mut u16s, &mut i16s, &mut f32s);
     let lent = samples::lend_u32(&mut words, memory);
-    let r = caller::make_calls(
+    let calls = samples::first_sizes(list, used);
+    let made = make(
         shape,
         structure,
         lent,
-        samples::first_sizes(list, used),
+        calls,
         cells,
         &u16s,
         &i16s,
         &f32s,
-        &mut out8,
-        &mut out16,
-        &mut out32,
-        &mut answers,
+        &mut given,
     );
-    compare(r, cause, &answers, wanted, state);
+    let opening = made.opening;
+    let opened = answers::opening(opening) == cause;
+    opened & (made.places == count) & answers_alike(&given, wanted)
 }
 
 // ---- one list
 
 // Opened with too few words nothing is answered, and the plain session is not asked.
-fn try_calls(shape: &[usize], structure: &[u8], cells: &[u8; 640], state: &mut [u64; 40]) {
-    let mut frame = [0u8; 640];
+fn try_calls(shape: &[usize], structure: &[u8], cells: &[u8; 640], x: u64, state: &mut [u64; 40]) {
     let mut list = [0usize; 256];
     let mut wanted = [77u64; 16384];
     let e = flood::extent_of(shape, structure);
-    let short = (below(state, 16) == 0) as usize;
-    let count = plus(below(state, 31), 30);
-    let rest = below(state, 4);
-    tally::set(state, plain::AT, 0);
-    tally::set(state, tally::FED, 0);
-    tally::add(state, plain::LISTS);
-    tally::add(state, plus(tally::REFUSED, times(5, short)));
-    let asked = flood::less(1, short);
-    all_calls(
+    let short = (x % 16 == 0) as usize;
+    let asked = (short == 0) as usize;
+    let count = plus(below(next(x), 31), 30);
+    let rest = below(x / 16, 4);
+    let said = all_calls(
         e,
         structure,
         cells,
-        &mut frame,
         &mut list,
         times(count, asked),
         &mut wanted,
         state,
     );
-    say_rest(times(rest, asked), &mut wanted, state);
+    let places = say_rest(times(rest, asked), said, &mut wanted, state);
     let used = plus(times(4, count), rest);
-    let memory = flood::less(trial::layout::words_needed(e), short);
-    make(
+    let memory = flood::less(flood::layout::words_needed(e), short);
+    let cause = times(5, short);
+    let agreed = make_alike(
         shape,
         structure,
         memory,
         cells,
         &list,
         used,
-        times(5, short),
+        cause,
+        places,
         &wanted,
-        state,
     );
+    tally::count(state, tally::TRIED, cause, agreed);
 }
 
 // Some frames have more than 255 groups: a structure of zeros, and 600 cells.
 fn try_list(state: &mut [u64; 40]) {
     let mut structure = [0u8; 81];
     let mut cells = [0u8; 640];
-    let rank = plus(below(state, 4), 1);
-    let dense = plus(below(state, 16), 1);
-    samples::make_flags(state, &mut cells, dense);
-    if below(state, 12) == 0 {
-        try_calls(&[4, 150], samples::first(&structure, 9), &cells, state);
+    let shape = samples::random_frame(state, &mut structure, &mut cells);
+    let x = tally::random(state);
+    if x / 256 % 12 == 0 {
+        try_calls(&[4, 150], &[0; 9], &cells, x, state);
         return;
     }
-    let shape = samples::random_shape(state, rank);
-    samples::make_structure(
-        state,
-        samples::lend_u8(&mut structure, samples::power3(rank)),
-    );
-    let used = samples::first_sizes(&shape, rank);
-    try_calls(
-        used,
-        samples::first(&structure, samples::power3(rank)),
-        &cells,
-        state,
-    );
+    let used = samples::first_sizes(&shape.entries, shape.rank);
+    let bytes = samples::first(&structure, samples::power3(shape.rank));
+    try_calls(used, bytes, &cells, x, state);
 }
 
 fn try_lists(state: &mut [u64; 40]) {
@@ -255,44 +324,20 @@ fn try_lists(state: &mut [u64; 40]) {
     }
 }
 
-// ---- the report
-
-fn line(name: &[u8], count: u64) {
-    io::write_all(1, name);
-    io::print_decimal(1, count);
-    io::write_all(1, b"\n");
-}
-
-fn refused(number: usize, state: &[u64; 40]) {
-    io::write_all(1, b"refused ");
-    io::print_decimal(1, number as u64);
-    line(b": ", tally::at(state, plus(tally::REFUSED, number)));
-}
-
 fn report(state: &[u64; 40]) {
-    line(b"lists: ", tally::at(state, plain::LISTS));
-    line(b"calls: ", tally::at(state, plain::CALLS));
-    line(
-        b"openings and calls accepted: ",
-        tally::at(state, tally::REFUSED),
+    tally::report(state, b"lists: #\ncalls: #\n", tally::TRIED);
+    tally::report(state, b"openings and calls accepted: #\n", tally::REFUSED);
+    tally::report(
+        state,
+        b"refused 5: #\nrefused 6: #\nrefused 7: #\nrefused 8: #\nrefused 9: #\nrefused 10: #\nno calls: #\n",
+        29,
     );
-    refused(5, state);
-    refused(6, state);
-    refused(7, state);
-    refused(8, state);
-    refused(9, state);
-    refused(10, state);
-    line(b"no calls: ", tally::at(state, plain::NO_CALL));
-    line(b"differed=", tally::at(state, tally::DIFFERED));
-}
-
-fn test(state: &mut [u64; 40]) {
-    tally::set(state, 0, 88172645463325252);
-    try_lists(state);
-    report(state);
+    tally::report(state, b"differed=#\n", tally::DIFFERED);
 }
 
 fn main() {
     let mut state = [0u64; 40];
-    test(&mut state);
+    state[0] = 88172645463325252;
+    try_lists(&mut state);
+    report(&state);
 }

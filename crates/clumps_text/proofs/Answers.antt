@@ -10,14 +10,13 @@ use Rattle.frame.specs.Shape.{size, width, leading, coords}
 use Rattle.frame.specs.Structure.{offset, backward, on, leftOn}
 use Rattle.frame.specs.ChainRule.{nonzero, sameList, any, leadsBy, step, edges, groupCount, label, range, labels}
 use Rattle.frame.specs.Runs.{goesOn, beginsRun, runs}
-use Rattle.clumps_text.specs.Text.{line, digits, decimal, blankBefore, decimals, flagByte, widthName, linesName, structureName, cellsName, runsName, joinsName, objectsName, labelsName, refusedName}
-use Rattle.clumps_text.specs.Input.{then, bytes, value, flags, given, lastLines, parse}
-use Rattle.clumps_text.specs.Input as Input
-use Rattle.clumps_text.specs.Output.{structureBytes, refusal, answer, answerTo, printed, clumpsOf}
+use Rattle.clumps_text.specs.Text.{line, digits, decimal, blankBefore, decimals, flagCharacter, widthName, linesName, structureName, cellsName, runsName, joinsName, objectsName, labelsName, refusedName}
+use Rattle.clumps_text.specs.Input.{andThen, parseExactly, digitsValue, parseNumber, parseFlags, flagsGiven, lastLines, parse}
+use Rattle.clumps_text.specs.Output.{structureBytes, refusalText, labelledText, outputTo, printed, clumpsOf}
 
 -- what the computation of an output opens
 computed : Unit {0}
-unfolding merge rep isRoot count groups gather pairs number size width leading coords offset backward on leftOn nonzero sameList any leadsBy step edges groupCount label range labels goesOn beginsRun runs zipWith digits decimal blankBefore decimals flagByte widthName linesName structureName cellsName runsName joinsName objectsName labelsName refusedName then bytes value Input.number flags given lastLines parse structureBytes refusal answer answerTo printed clumpsOf
+unfolding merge rep isRoot count groups gather pairs number size width leading coords offset backward on leftOn nonzero sameList any leadsBy step edges groupCount label range labels goesOn beginsRun runs zipWith digits decimal blankBefore decimals flagCharacter widthName linesName structureName cellsName runsName joinsName objectsName labelsName refusedName andThen parseExactly digitsValue parseNumber parseFlags flagsGiven lastLines parse structureBytes refusalText labelledText outputTo printed clumpsOf
 computed = tt
 
 -- ---- document 01's example, byte by byte
@@ -58,12 +57,12 @@ text : List ℕ → List ℕ → List ℕ → List ℕ → List ℕ → List ℕ
 text w l s cells past = line widthName w (line linesName l (line structureName s (line cellsName cells past)))
 
 -- an empty structure line is the default's; nine ones join 10/01 where it does not
-cross-right : map clumpsOf (text (c 1 3) (c 1 3) [] (c 9 101101111) [] ∷ text (c 1 2) (c 1 2) [] (c 4 1001) [] ∷ text (c 1 2) (c 1 2) (c 9 10111010) (c 4 1001) [] ∷ text (c 1 2) (c 1 2) (c 9 111111111) (c 4 1001) [] ∷ []) ≡ example-output ∷ answer 2 0 2 (1 ∷ 0 ∷ 0 ∷ 2 ∷ []) ∷ answer 2 0 2 (1 ∷ 0 ∷ 0 ∷ 2 ∷ []) ∷ answer 2 1 1 (1 ∷ 0 ∷ 0 ∷ 1 ∷ []) ∷ []
+cross-right : map clumpsOf (text (c 1 3) (c 1 3) [] (c 9 101101111) [] ∷ text (c 1 2) (c 1 2) [] (c 4 1001) [] ∷ text (c 1 2) (c 1 2) (c 9 10111010) (c 4 1001) [] ∷ text (c 1 2) (c 1 2) (c 9 111111111) (c 4 1001) [] ∷ []) ≡ example-output ∷ labelledText 2 0 2 (1 ∷ 0 ∷ 0 ∷ 2 ∷ []) ∷ labelledText 2 0 2 (1 ∷ 0 ∷ 0 ∷ 2 ∷ []) ∷ labelledText 2 1 1 (1 ∷ 0 ∷ 0 ∷ 1 ∷ []) ∷ []
 unfolding example-output text characters computed
 cross-right = refl
 
 -- the shape is lines, width: two cells in a line are one run, one below the other they are two
-shape-right : map clumpsOf (text (c 1 2) (c 1 1) [] (c 2 11) [] ∷ text (c 1 1) (c 1 2) [] (c 2 11) [] ∷ []) ≡ answer 1 0 1 (1 ∷ 1 ∷ []) ∷ answer 2 1 1 (1 ∷ 1 ∷ []) ∷ []
+shape-right : map clumpsOf (text (c 1 2) (c 1 1) [] (c 2 11) [] ∷ text (c 1 1) (c 1 2) [] (c 2 11) [] ∷ []) ≡ labelledText 1 0 1 (1 ∷ 1 ∷ []) ∷ labelledText 2 1 1 (1 ∷ 1 ∷ []) ∷ []
 unfolding text characters computed
 shape-right = refl
 
@@ -74,8 +73,8 @@ twelve-right = refl
 
 -- ---- texts that are refused by 11
 
-refused : List (List ℕ)
-refused =
+refusedTexts : List (List ℕ)
+refusedTexts =
     -- a leading zero; 0; 49; no digit; a third digit; a character that is none
     text (c 2 2) (c 1 1) [] (c 2 11) []
     ∷ text (c 1 2) (c 2 1) [] (c 2 11) []
@@ -107,6 +106,6 @@ refused =
 eleven : List ℕ
 eleven = 114 ∷ 101 ∷ 102 ∷ 117 ∷ 115 ∷ 101 ∷ 100 ∷ 61 ∷ 49 ∷ 49 ∷ 10 ∷ []
 
-refused-right : map clumpsOf refused ≡ map (λ _. eleven) refused
-unfolding refused eleven text characters computed
+refused-right : map clumpsOf refusedTexts ≡ map (λ _. eleven) refusedTexts
+unfolding refusedTexts eleven text characters computed
 refused-right = refl

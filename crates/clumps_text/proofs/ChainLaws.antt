@@ -8,24 +8,24 @@ use Rattle.frame.specs.Shape.{size}
 use Rattle.frame.specs.ChainRule.{Labelled, groupCount, labels}
 use Rattle.frame.specs.Runs.{runs}
 use Rattle.frame.proofs.ChainRuleLaws.{labels-right, length-labels}
-use Rattle.clumps_text.specs.Input.{Frame, parsed, parse}
-use Rattle.clumps_text.specs.Output.{shapeOf, structureOf, answer, answerTo, printed, clumpsOf}
+use Rattle.clumps_text.specs.Input.{TextFrame, parsed, parse}
+use Rattle.clumps_text.specs.Output.{frameShape, frameStructure, labelledText, outputTo, printed, clumpsOf}
 
 -- an output, and the labelling of a frame that it prints
-pub record Labelling (f : Frame) (out : List ℕ) : Type 0 where
+pub record Labelling (f : TextFrame) (out : List ℕ) : Type 0 where
   pub n : ℕ
   pub ns : List ℕ
-  pub one-each : length ns ≡ size (shapeOf f)
-  pub labelled : Labelled (shapeOf f) (structureOf f) (f .cells) n (λ p. getD ns p 0)
-  pub prints : out ≡ answer (runs (shapeOf f) (structureOf f) (f .cells)) (runs (shapeOf f) (structureOf f) (f .cells) - n) n ns
+  pub one-each : length ns ≡ size (frameShape f)
+  pub labelled : Labelled (frameShape f) (frameStructure f) (f .cells) n (λ p. getD ns p 0)
+  pub prints : out ≡ labelledText (runs (frameShape f) (frameStructure f) (f .cells)) (runs (frameShape f) (frameStructure f) (f .cells) - n) n ns
 
-pub chain-rule : (text : List ℕ) (f : Frame) → parse text ≡ parsed f [] → Labelling f (clumpsOf text)
-unfolding clumpsOf printed answerTo
+pub chain-rule : (text : List ℕ) (f : TextFrame) → parse text ≡ parsed f [] → Labelling f (clumpsOf text)
+unfolding clumpsOf printed outputTo
 chain-rule text f e =
     record {
-      n = groupCount (shapeOf f) (structureOf f) (f .cells);
-      ns = labels (shapeOf f) (structureOf f) (f .cells);
-      one-each = length-labels (shapeOf f) (structureOf f) (f .cells);
-      labelled = labels-right (shapeOf f) (structureOf f) (f .cells);
+      n = groupCount (frameShape f) (frameStructure f) (f .cells);
+      ns = labels (frameShape f) (frameStructure f) (f .cells);
+      one-each = length-labels (frameShape f) (frameStructure f) (f .cells);
+      labelled = labels-right (frameShape f) (frameStructure f) (f .cells);
       prints = ap printed e;
     }

@@ -16,9 +16,9 @@ use Rattle.frame.specs.Shape.{size}
 use Rattle.frame.specs.ChainRule.{nonzero, groupCount, labels}
 use Rattle.frame.specs.Runs.{beginsRun, runs}
 use Rattle.frame.proofs.ChainRuleLaws.{labels-right, length-labels}
-use Rattle.clumps_text.specs.Text.{decimal, blankBefore, decimals, flagByte, widthName, linesName, structureName, cellsName, runsName, joinsName, objectsName, labelsName, refusedName}
-use Rattle.clumps_text.specs.Input.{Frame, Accepted, textBefore, Parsed, parsed, bad, parse}
-use Rattle.clumps_text.specs.Output.{shapeOf, structureOf, refusal, answer, answerTo, answerOf, printed, clumpsOf}
+use Rattle.clumps_text.specs.Text.{decimal, blankBefore, decimals, flagCharacter, widthName, linesName, structureName, cellsName, runsName, joinsName, objectsName, labelsName, refusedName}
+use Rattle.clumps_text.specs.Input.{TextFrame, Accepted, textBefore, Parsed, parsed, bad, parse}
+use Rattle.clumps_text.specs.Output.{frameShape, frameStructure, refusalText, labelledText, outputTo, outputOf, printed, clumpsOf}
 use Rattle.clumps_text.proofs.DecimalLaws.{decimal-small, decimal-more}
 use Rattle.clumps_text.proofs.InputLaws.{parse-back}
 use Rattle.clumps_text.proofs.FrameLaws.{product}
@@ -67,60 +67,60 @@ decimals-most (n ∷ ns) h m =
 
 -- ---- outputs
 
-refusal-most : length (refusal 11) ≤ 11561
-unfolding refusal refusedName
-refusal-most =
+refusal-text-most : length (refusalText 11) ≤ 11561
+unfolding refusalText refusedName
+refusal-text-most =
     let t = two-digits 11 (omega arith) in
     simp length-append (omega arith)
 
-answer-most : (r j n : ℕ) (ns : List ℕ) → r < 10000 → j < 10000 → n < 10000 → Small ns → length ns ≤ 2304 → length (answer r j n ns) ≤ 11561
-unfolding answer runsName joinsName objectsName labelsName
-answer-most r j n ns a b c s m =
+labelled-text-most : (r j n : ℕ) (ns : List ℕ) → r < 10000 → j < 10000 → n < 10000 → Small ns → length ns ≤ 2304 → length (labelledText r j n ns) ≤ 11561
+unfolding labelledText runsName joinsName objectsName labelsName
+labelled-text-most r j n ns a b c s m =
     let x = four-digits r a in
     let y = four-digits j b in
     let z = four-digits n c in
     let w = decimals-most ns s m in
     simp length-append (omega arith)
 
-module _ (f : Frame) (a : Accepted f) where
-  cells-most : size (shapeOf f) ≤ 2304
+module _ (f : TextFrame) (a : Accepted f) where
+  cells-most : size (frameShape f) ≤ 2304
   unfolding size
   cells-most = omega (arith, product (a .most-lines) (a .most-width))
 
-  count-small : groupCount (shapeOf f) (structureOf f) (f .cells) < 10000
-  count-small = omega (arith, groups-most (shapeOf f) (structureOf f) (f .cells), cells-most)
+  count-small : groupCount (frameShape f) (frameStructure f) (f .cells) < 10000
+  count-small = omega (arith, groups-most (frameShape f) (frameStructure f) (f .cells), cells-most)
 
-  runs-small : runs (shapeOf f) (structureOf f) (f .cells) < 10000
+  runs-small : runs (frameShape f) (frameStructure f) (f .cells) < 10000
   unfolding runs
-  runs-small = omega (arith, count-most (beginsRun (shapeOf f) (structureOf f) (f .cells)) (size (shapeOf f)), cells-most)
+  runs-small = omega (arith, count-most (beginsRun (frameShape f) (frameStructure f) (f .cells)) (size (frameShape f)), cells-most)
 
-  labels-small : Small (labels (shapeOf f) (structureOf f) (f .cells))
+  labels-small : Small (labels (frameShape f) (frameStructure f) (f .cells))
   unfolding Small
   labels-small p h = go (nonzero (f .cells) p) refl
     where
-      l : p < size (shapeOf f)
-      l = subst (λ (k : ℕ). p < k) (length-labels (shapeOf f) (structureOf f) (f .cells)) h
+      l : p < size (frameShape f)
+      l = subst (λ (k : ℕ). p < k) (length-labels (frameShape f) (frameStructure f) (f .cells)) h
 
-      go : (b : Bool) → nonzero (f .cells) p ≡ b → getD (labels (shapeOf f) (structureOf f) (f .cells)) p 0 < 10000
-      go true e = omega (arith, labels-right (shapeOf f) (structureOf f) (f .cells) .on p l e .1, count-small)
-      go false e = omega (arith, labels-right (shapeOf f) (structureOf f) (f .cells) .off p l e)
+      go : (b : Bool) → nonzero (f .cells) p ≡ b → getD (labels (frameShape f) (frameStructure f) (f .cells)) p 0 < 10000
+      go true e = omega (arith, labels-right (frameShape f) (frameStructure f) (f .cells) .on p l e .1, count-small)
+      go false e = omega (arith, labels-right (frameShape f) (frameStructure f) (f .cells) .off p l e)
 
-  accepted-most : length (answerOf f) ≤ 11561
-  unfolding answerTo
+  accepted-most : length (outputOf f) ≤ 11561
+  unfolding outputTo
   accepted-most =
-      let r = runs (shapeOf f) (structureOf f) (f .cells) in
-      let n = groupCount (shapeOf f) (structureOf f) (f .cells) in
-      let ns = labels (shapeOf f) (structureOf f) (f .cells) in
-      answer-most r (r - n) n ns runs-small (omega (arith, runs-small)) count-small labels-small (omega (arith, length-labels (shapeOf f) (structureOf f) (f .cells), cells-most))
+      let r = runs (frameShape f) (frameStructure f) (f .cells) in
+      let n = groupCount (frameShape f) (frameStructure f) (f .cells) in
+      let ns = labels (frameShape f) (frameStructure f) (f .cells) in
+      labelled-text-most r (r - n) n ns runs-small (omega (arith, runs-small)) count-small labels-small (omega (arith, length-labels (frameShape f) (frameStructure f) (f .cells), cells-most))
 
 pub output-most : (text : List ℕ) → length (clumpsOf text) ≤ 11561
 unfolding clumpsOf printed
 output-most text = go (parse text) refl
   where
-    go : (x : Parsed Frame) → parse text ≡ x → length (printed x) ≤ 11561
+    go : (x : Parsed TextFrame) → parse text ≡ x → length (printed x) ≤ 11561
     go (parsed f []) e = accepted-most f (parse-back text f [] e .accepted)
-    go (parsed f (b ∷ rest)) e = refusal-most
-    go bad e = refusal-most
+    go (parsed f (b ∷ rest)) e = refusal-text-most
+    go bad e = refusal-text-most
 
 -- ---- inputs
 
@@ -128,20 +128,20 @@ flags-most : (s : List Bool) → (length s ≡ 0) ⊎ (length s ≡ 9) → lengt
 flags-most s (inl e) = omega arith
 flags-most s (inr e) = omega arith
 
-text-most : (f : Frame) → Accepted f → length (textBefore f []) ≤ 2349
+text-most : (f : TextFrame) → Accepted f → length (textBefore f []) ≤ 2349
 unfolding textBefore widthName linesName structureName cellsName
 text-most f a =
     let w = two-digits (f .width) (omega (arith, a .most-width)) in
     let l = two-digits (f .lines) (omega (arith, a .most-lines)) in
-    let s : length (map flagByte (f .structure)) ≤ 9 = le-trans (omega (arith, length-map (f .structure) flagByte)) (flags-most (f .structure) (a .nine-or-none)) in
-    let c : length (map flagByte (f .cells)) ≤ 2304 = omega (arith, length-map (f .cells) flagByte, a .all-cells, product (a .most-lines) (a .most-width)) in
+    let s : length (map flagCharacter (f .structure)) ≤ 9 = le-trans (omega (arith, length-map (f .structure) flagCharacter)) (flags-most (f .structure) (a .nine-or-none)) in
+    let c : length (map flagCharacter (f .cells)) ≤ 2304 = omega (arith, length-map (f .cells) flagCharacter, a .all-cells, product (a .most-lines) (a .most-width)) in
     simp length-append (omega arith)
 
-pub long-refused : (text : List ℕ) → 2349 < length text → clumpsOf text ≡ refusal 11
+pub long-refused : (text : List ℕ) → 2349 < length text → clumpsOf text ≡ refusalText 11
 unfolding clumpsOf printed
 long-refused text h = go (parse text) refl
   where
-    go : (x : Parsed Frame) → parse text ≡ x → printed x ≡ refusal 11
+    go : (x : Parsed TextFrame) → parse text ≡ x → printed x ≡ refusalText 11
     go (parsed f []) e =
         let t = parse-back text f [] e in
         absurd (omega (arith, ap length (t .text), text-most f (t .accepted)))

@@ -13,11 +13,11 @@ use Rattle.frame.specs.Plain.{Answer}
 use Rattle.frame.specs.Runs.{runs}
 use Rattle.clumps_text.specs.declared.Place.{Place}
 use Rattle.clumps_text.specs.declared.Place.the-variants.{At, Nowhere}
-use Rattle.clumps_text.specs.declared.Sizes.{Sizes}
-use Rattle.clumps_text.specs.Input.{Frame, Parsed, parsed, bad, then, parse}
-use Rattle.clumps_text.specs.Output.{bit, structureOf, refusal, answer, answerTo, printed, clumpsOf}
+use Rattle.clumps_text.specs.declared.ParsedShape.{ParsedShape}
+use Rattle.clumps_text.specs.Input.{TextFrame, Parsed, parsed, bad, andThen, parse}
+use Rattle.clumps_text.specs.Output.{asByte, frameStructure, refusalText, labelledText, outputTo, printed, clumpsOf}
 use Rattle.frame.specs.Overlay.{Holds}
-use Rattle.clumps_text.specs.Steps.{readFrom, Bytes, frameBytes, bytesRead, FrameRead, isEmpty, endsAt, LabelReady, Labels, answerText}
+use Rattle.clumps_text.specs.Steps.{parseFrom, ByteFrame, frameBytes, parsedBytes, FrameParsed, isEmpty, endsAt, LabelReady, Labels, answerText}
 use Rattle.clumps_text.proofs.InputLaws.{through, same-read, same-rest, parse-back}
 use Rattle.clumps_text.proofs.FrameLaws.{product}
 
@@ -48,38 +48,38 @@ ready {w} {l} {structure} {cells} {numbers} r =
       places = sym (prefix-long (l * w) numbers (omega (arith, r .places)));
     }
 
-pub labels-printed : {shape structure : List ℕ} {cells : List Bool} {a : Answer} {new : List ℕ} (numbers : List ℕ) {ys out : List ℕ} {at : ℕ} → numbers ≡ new → Labels shape structure cells a new → Holds (answerText a numbers) ys out at → Holds (answerTo shape structure cells) ys out at
-unfolding answerTo
+pub labels-printed : {shape structure : List ℕ} {cells : List Bool} {a : Answer} {new : List ℕ} (numbers : List ℕ) {ys out : List ℕ} {at : ℕ} → numbers ≡ new → Labels shape structure cells a new → Holds (answerText a numbers) ys out at → Holds (outputTo shape structure cells) ys out at
+unfolding outputTo
 labels-printed {shape} {structure} {cells} {a} numbers {ys} {out} {at} e l p =
     let r = runs shape structure cells in
     let n = groupCount shape structure cells in
-    let x : answerText a numbers ≡ answerTo shape structure cells = ap (λ (b : Answer). answerText b numbers) (l .said) ∙ ap (λ (ns : List ℕ). answer r (r - n) n ns) (e ∙ l .labelled) in
+    let x : answerText a numbers ≡ outputTo shape structure cells = ap (λ (b : Answer). answerText b numbers) (l .said) ∙ ap (λ (ns : List ℕ). labelledText r (r - n) n ns) (e ∙ l .labelled) in
     subst (λ (t : List ℕ). Holds t ys out at) x p
 
 -- ---- flags and bytes
 
-nz-bit : (b : Bool) → nz (bit b) ≡ b
+nz-as-byte : (b : Bool) → nz (asByte b) ≡ b
 unfolding nz
-nz-bit true = refl
-nz-bit false = refl
+nz-as-byte true = refl
+nz-as-byte false = refl
 
-flags-bytes : (fs : List Bool) → map nz (map bit fs) ≡ fs
-flags-bytes [] = refl
-flags-bytes (b ∷ fs) = ap (λ (c : Bool). c ∷ map nz (map bit fs)) (nz-bit b) ∙ ap (λ (l : List Bool). b ∷ l) (flags-bytes fs)
+flags-as-bytes : (fs : List Bool) → map nz (map asByte fs) ≡ fs
+flags-as-bytes [] = refl
+flags-as-bytes (b ∷ fs) = ap (λ (c : Bool). c ∷ map nz (map asByte fs)) (nz-as-byte b) ∙ ap (λ (l : List Bool). b ∷ l) (flags-as-bytes fs)
 
 -- ---- the whole text
 
 -- a frame was read, and nothing stands after it
-pub record Whole (text structure cells : List ℕ) (z : Sizes) : Type 0 where
-  pub frame : Frame
+pub record Whole (text structure cells : List ℕ) (z : ParsedShape) : Type 0 where
+  pub frame : TextFrame
   pub is-read : parse text ≡ parsed frame []
   pub width : frame .width ≡ z .width
   pub lines : frame .lines ≡ z .lines
-  pub structure-is : structureOf frame ≡ structure
+  pub structure-is : frameStructure frame ≡ structure
   pub cells-are : frame .cells ≡ map nz (take (z .lines * z .width) cells)
 
-module _ (text structure cells : List ℕ) (z : Sizes) (r : FrameRead text structure cells z) where
-  abbrev taken : Bytes
+module _ (text structure cells : List ℕ) (z : ParsedShape) (r : FrameParsed text structure cells z) where
+  abbrev taken : ByteFrame
   taken = record { width = z .width; lines = z .lines; structure = structure; cells = take (z .lines * z .width) cells }
 
   empty : (t : List ℕ) → isEmpty t ≡ true → t ≡ []
@@ -87,8 +87,8 @@ module _ (text structure cells : List ℕ) (z : Sizes) (r : FrameRead text struc
   empty [] e = refl
   empty (b ∷ t) e = absurd (let y : _≡_ {A = ℕ} 0 1 = cc in omega arith)
 
-  whole-at : (p : Place) → endsAt text p ≡ true → readFrom text p (parsed taken) ≡ bytesRead (parse text) → Whole text structure cells z
-  unfolding bytesRead frameBytes
+  whole-at : (p : Place) → endsAt text p ≡ true → parseFrom text p (parsed taken) ≡ parsedBytes (parse text) → Whole text structure cells z
+  unfolding parsedBytes frameBytes
   whole-at (At at) e h =
       let t = through (parse text) (λ f s. parsed (frameBytes f) s) (sym h) in
       let f = t .first in
@@ -97,10 +97,10 @@ module _ (text structure cells : List ℕ) (z : Sizes) (r : FrameRead text struc
       record {
         frame = f;
         is-read = t .reads ∙ ap (λ (s : List ℕ). parsed f s) n;
-        width = ap (λ (b : Bytes). b .width) q;
-        lines = ap (λ (b : Bytes). b .lines) q;
-        structure-is = ap (λ (b : Bytes). b .structure) q;
-        cells-are = sym (flags-bytes (f .cells)) ∙ ap (λ (b : Bytes). map nz (b .cells)) q;
+        width = ap (λ (b : ByteFrame). b .width) q;
+        lines = ap (λ (b : ByteFrame). b .lines) q;
+        structure-is = ap (λ (b : ByteFrame). b .structure) q;
+        cells-are = sym (flags-as-bytes (f .cells)) ∙ ap (λ (b : ByteFrame). map nz (b .cells)) q;
       }
   whole-at Nowhere e h = absurd (let y : _≡_ {A = ℕ} 0 1 = cc in omega arith)
 
@@ -121,32 +121,32 @@ module _ (text structure cells : List ℕ) (z : Sizes) (r : FrameRead text struc
         places = n;
       }
 
-  pub whole-answer : endsAt text (z .next) ≡ true → answerTo (z .lines ∷ z .width ∷ []) structure (map nz (take (z .lines * z .width) cells)) ≡ clumpsOf text
+  pub whole-output : endsAt text (z .next) ≡ true → outputTo (z .lines ∷ z .width ∷ []) structure (map nz (take (z .lines * z .width) cells)) ≡ clumpsOf text
   unfolding clumpsOf printed
-  whole-answer e =
+  whole-output e =
       let w = whole e in
       let f = w .frame in
-      let a : clumpsOf text ≡ answerTo (f .lines ∷ f .width ∷ []) (structureOf f) (f .cells) = ap printed (w .is-read) in
-      sym (a ∙ (ap (λ (k : ℕ). answerTo (k ∷ f .width ∷ []) (structureOf f) (f .cells)) (w .lines) ∙ (ap (λ (k : ℕ). answerTo (z .lines ∷ k ∷ []) (structureOf f) (f .cells)) (w .width) ∙ (ap (λ (s : List ℕ). answerTo (z .lines ∷ z .width ∷ []) s (f .cells)) (w .structure-is) ∙ ap (answerTo (z .lines ∷ z .width ∷ []) structure) (w .cells-are)))))
+      let a : clumpsOf text ≡ outputTo (f .lines ∷ f .width ∷ []) (frameStructure f) (f .cells) = ap printed (w .is-read) in
+      sym (a ∙ (ap (λ (k : ℕ). outputTo (k ∷ f .width ∷ []) (frameStructure f) (f .cells)) (w .lines) ∙ (ap (λ (k : ℕ). outputTo (z .lines ∷ k ∷ []) (frameStructure f) (f .cells)) (w .width) ∙ (ap (λ (s : List ℕ). outputTo (z .lines ∷ z .width ∷ []) s (f .cells)) (w .structure-is) ∙ ap (outputTo (z .lines ∷ z .width ∷ []) structure) (w .cells-are)))))
 
-  refused-with : (x : Parsed Frame) (t : List ℕ) → isEmpty t ≡ false → parsed taken t ≡ bytesRead x → printed x ≡ refusal 11
-  unfolding bytesRead then printed isEmpty
+  refused-with : (x : Parsed TextFrame) (t : List ℕ) → isEmpty t ≡ false → parsed taken t ≡ parsedBytes x → printed x ≡ refusalText 11
+  unfolding parsedBytes andThen printed isEmpty
   refused-with (parsed f []) t e h = absurd (let u = same-rest h in let y : _≡_ {A = ℕ} 0 1 = cc in omega arith)
   refused-with (parsed f (b ∷ s)) t e h = refl
   refused-with bad t e h = refl
 
-  refused-bad : (x : Parsed Frame) → bad ≡ bytesRead x → printed x ≡ refusal 11
-  unfolding bytesRead then printed
+  refused-bad : (x : Parsed TextFrame) → bad ≡ parsedBytes x → printed x ≡ refusalText 11
+  unfolding parsedBytes andThen printed
   refused-bad (parsed f s) h = absurd (let y : _≡_ {A = ℕ} 0 1 = cc in omega arith)
   refused-bad bad h = refl
 
-  refused-at : (p : Place) → endsAt text p ≡ false → readFrom text p (parsed taken) ≡ bytesRead (parse text) → refusal 11 ≡ clumpsOf text
+  refused-at : (p : Place) → endsAt text p ≡ false → parseFrom text p (parsed taken) ≡ parsedBytes (parse text) → refusalText 11 ≡ clumpsOf text
   unfolding clumpsOf
   refused-at (At at) e h = sym (refused-with (parse text) (drop at text) e h)
   refused-at Nowhere e h = sym (refused-bad (parse text) h)
 
-  pub refused-answer : endsAt text (z .next) ≡ false → refusal 11 ≡ clumpsOf text
-  refused-answer e = refused-at (z .next) e (r .reads)
+  pub refused-output : endsAt text (z .next) ≡ false → refusalText 11 ≡ clumpsOf text
+  refused-output e = refused-at (z .next) e (r .reads)
 
 -- the two facts that the program promises
 pub reported : {xs ys out : List ℕ} {at : ℕ} (text : List ℕ) → xs ≡ clumpsOf text → Holds xs ys out at → Holds (clumpsOf text) ys out at

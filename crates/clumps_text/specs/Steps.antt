@@ -10,49 +10,57 @@ use Rattle.frame.specs.Plain.{Answer, fed, counted, refused}
 use Rattle.frame.specs.Runs.{runs}
 use Rattle.clumps_text.specs.declared.Place.{Place}
 use Rattle.clumps_text.specs.declared.Place.the-variants.{At, Nowhere}
-use Rattle.clumps_text.specs.declared.Sizes.{Sizes}
-use Rattle.clumps_text.specs.Input.{Frame, Parsed, parsed, bad, then, flags, given, lastLines, parse}
-use Rattle.clumps_text.specs.Output.{bit, structureBytes, structureOf, refusal, answer}
+use Rattle.clumps_text.specs.declared.ParsedShape.{ParsedShape}
+use Rattle.clumps_text.specs.Input.{TextFrame, Parsed, parsed, bad, andThen, parseFlags, flagsGiven, lastLines, parse}
+use Rattle.clumps_text.specs.Output.{asByte, structureBytes, frameStructure, refusalText, labelledText}
 
 -- ---- reading
 
 -- what is read from a place of the text on; from nowhere nothing is
-abbrev pub readFrom : {A : Type 0} → List ℕ → Place → (List ℕ → Parsed A) → Parsed A
-readFrom text (At at) k = k (drop at text)
-readFrom text Nowhere k = bad
+abbrev pub parseFrom : {A : Type 0} → List ℕ → Place → (List ℕ → Parsed A) → Parsed A
+parseFrom text (At at) k = k (drop at text)
+parseFrom text Nowhere k = bad
+
+-- k reads a value from one place on, and the text after it begins at the next; from nowhere, or where k reads nothing, next is nowhere
+abbrev pub Parses : {A : Type 0} → List ℕ → Place → (List ℕ → Parsed A) → A → Place → Type 0
+Parses text place k a next = parseFrom text next (parsed a) ≡ parseFrom text place k
 
 -- flags as bytes 0 and 1
-unfoldable pub bitsRead : ℕ → List ℕ → Parsed (List ℕ)
-bitsRead n t = then (flags n t) λ fs s. parsed (map bit fs) s
+unfoldable pub parseAsBytes : ℕ → List ℕ → Parsed (List ℕ)
+parseAsBytes n t = andThen (parseFlags n t) λ fs s. parsed (map asByte fs) s
 
 -- the structure's bytes, by its flags or the default's
-unfoldable pub structureRead : List ℕ → Parsed (List ℕ)
-structureRead t = then (flags (given t) t) λ fs s. parsed (structureBytes fs) s
+unfoldable pub parseStructure : List ℕ → Parsed (List ℕ)
+parseStructure t = andThen (parseFlags (flagsGiven t) t) λ fs s. parsed (structureBytes fs) s
 
 -- a frame as the labelling takes it: structure and cells as bytes
-pub record Bytes : Type 0 where
+pub record ByteFrame : Type 0 where
   pub width : ℕ
   pub lines : ℕ
   pub structure : List ℕ
   pub cells : List ℕ
 
-unfoldable pub frameBytes : Frame → Bytes
-frameBytes f = record { width = f .width; lines = f .lines; structure = structureOf f; cells = map bit (f .cells) }
+unfoldable pub frameBytes : TextFrame → ByteFrame
+frameBytes f = record { width = f .width; lines = f .lines; structure = frameStructure f; cells = map asByte (f .cells) }
 
-unfoldable pub bytesRead : Parsed Frame → Parsed Bytes
-bytesRead r = then r λ f s. parsed (frameBytes f) s
+unfoldable pub parsedBytes : Parsed TextFrame → Parsed ByteFrame
+parsedBytes r = andThen r λ f s. parsed (frameBytes f) s
 
 -- the first two lines are read, with the numbers that they say
-pub record SizesRead (text : List ℕ) (z : Sizes) : Type 0 where
+pub record ShapeParsed (text : List ℕ) (z : ParsedShape) : Type 0 where
   pub most-width : z .width ≤ 48
   pub most-lines : z .lines ≤ 48
-  pub reads : readFrom text (z .next) (lastLines (z .width) (z .lines)) ≡ parse text
+  pub reads : parseFrom text (z .next) (lastLines (z .width) (z .lines)) ≡ parse text
 
 -- all four are, with the structure's bytes and the first cells
-pub record FrameRead (text structure cells : List ℕ) (z : Sizes) : Type 0 where
+abbrev pub bytesOf : ParsedShape → List ℕ → List ℕ → ByteFrame
+bytesOf z structure cells =
+    record { width = z .width; lines = z .lines; structure = structure; cells = take (z .lines * z .width) cells }
+
+pub record FrameParsed (text structure cells : List ℕ) (z : ParsedShape) : Type 0 where
   pub most-width : z .width ≤ 48
   pub most-lines : z .lines ≤ 48
-  pub reads : readFrom text (z .next) (parsed (record { width = z .width; lines = z .lines; structure = structure; cells = take (z .lines * z .width) cells })) ≡ bytesRead (parse text)
+  pub reads : parseFrom text (z .next) (parsed (bytesOf z structure cells)) ≡ parsedBytes (parse text)
 
 -- no text is left from a place on
 unfoldable pub isEmpty : List ℕ → Bool
@@ -77,11 +85,14 @@ pub record LabelReady (width lines : ℕ) (structure cells numbers : List ℕ) (
 
 -- accepted, with the figures and labels of crate frame's definitions
 pub record Labels (shape structure : List ℕ) (cells : List Bool) (a : Answer) (numbers : List ℕ) : Type 0 where
-  pub said : a ≡ counted (groupCount shape structure cells) (record { runs = runs shape structure cells; joins = runs shape structure cells - groupCount shape structure cells })
+  pub said :
+      a
+      ≡ counted (groupCount shape structure cells)
+      (record { runs = runs shape structure cells; joins = runs shape structure cells - groupCount shape structure cells })
   pub labelled : numbers ≡ labels shape structure cells
 
 -- what an answer prints, with the numbers of an accepted one. A feed's is printed nowhere
 abbrev pub answerText : Answer → List ℕ → List ℕ
 answerText (fed l f) numbers = []
-answerText (counted n f) numbers = answer (f .runs) (f .joins) n numbers
-answerText (refused c) numbers = refusal c
+answerText (counted n f) numbers = labelledText (f .runs) (f .joins) n numbers
+answerText (refused c) numbers = refusalText c

@@ -31,8 +31,8 @@ decimals (n ∷ ns) = decimal n ++ blankBefore ns
 
 -- ---- flags: the character 1 or 0
 
-unfoldable pub flagByte : Bool → ℕ
-flagByte b = cond b 49 48
+unfoldable pub flagCharacter : Bool → ℕ
+flagCharacter b = cond b 49 48
 
 -- ---- names
 

@@ -10,9 +10,10 @@ ghost use Rattle.frame.specs.Kinds.{nz};
 ghost use Rattle.label.specs.Cases.{readAnswer};
 ghost use Rattle.frame.specs.Overlay.{overlay, Holds, Adds};
 ghost use Rattle.clumps_text.specs.Text.{line, decimal, decimals};
-ghost use Rattle.clumps_text.specs.Input.{parsed, bytes, value, number, given};
-ghost use Rattle.clumps_text.specs.Output.{structureBytes, refusal, answer, answerTo, clumpsOf};
-ghost use Rattle.clumps_text.specs.Steps.{readFrom, bitsRead, structureRead, SizesRead, FrameRead, endsAt, LabelReady, Labels, answerText};
+ghost use Rattle.clumps_text.specs.Input.{parseExactly, digitsValue, parseNumber, flagsGiven};
+ghost use Rattle.clumps_text.specs.Output.{structureBytes, refusalText, labelledText, outputTo, clumpsOf};
+ghost use Rattle.clumps_text.specs.Steps.{Parses, parseAsBytes, parseStructure, ShapeParsed, FrameParsed, endsAt};
+ghost use Rattle.clumps_text.specs.Steps.{LabelReady, Labels, answerText};
 
 // ---- reading
 
@@ -23,7 +24,7 @@ enum Place {
 }
 
 // A number that was read, and the place after its line.
-struct Number {
+struct ParsedNumber {
     value: usize,
     next: Place,
 }
@@ -49,8 +50,8 @@ fn bytes_left(text: &[u8], at: usize) -> usize
 }
 
 // Bytes that must stand here.
-fn bytes_at(text: &[u8], place: Place, name: &[u8]) -> Place
-    ensures { λ r. ⌜ readFrom (now (text .entry)) r (parsed tt) ≡ readFrom (now (text .entry)) place (bytes (now (name .entry))) ⌝ }
+fn parse_exactly(text: &[u8], place: Place, name: &[u8]) -> Place
+    ensures { λ r. ⌜ Parses (now (text .entry)) place (parseExactly (now (name .entry))) tt r ⌝ }
 {
     let Place::At(at) = place else {
         return Place::Nowhere;
@@ -69,7 +70,7 @@ fn bytes_at(text: &[u8], place: Place, name: &[u8]) -> Place
 }
 
 // The value of a digit; 0 for a byte below them.
-fn digit(b: u8) -> usize
+fn digit_value(b: u8) -> usize
     ensures { λ r. ⌜ r ≡ b - 48 ⌝ }
 {
     if b < 48 {
@@ -79,60 +80,61 @@ fn digit(b: u8) -> usize
 }
 
 // The value of one digit, where byte 10 follows it, else of two.
-fn value_at(text: &[u8], at: usize) -> usize
-    ensures { λ r. ⌜ r ≡ value (drop at (now (text .entry))) ⌝ }
+fn digits_value_at(text: &[u8], at: usize) -> usize
+    ensures { λ r. ⌜ r ≡ digitsValue (drop at (now (text .entry))) ⌝ }
 {
     if text.len() <= at {
         return 0;
     }
-    let a = digit(byte_at(text, at));
+    let a = digit_value(byte_at(text, at));
     let b = byte_at(text, at + 1);
     if b == 10 {
         return a;
     }
-    10 * a + digit(b)
+    10 * a + digit_value(b)
 }
 
 // A number from 1 to 48 without leading zeros, and the byte 10 that ends its line.
-fn number_at(text: &[u8], place: Place) -> Number
-    ensures { λ r. ⌜ (r .value ≤ 48) × (readFrom (now (text .entry)) (r .next) (parsed (r .value)) ≡ readFrom (now (text .entry)) place number) ⌝ }
+fn parse_number(text: &[u8], place: Place) -> ParsedNumber
+    ensures { λ r. ⌜ (r .value ≤ 48) × Parses (now (text .entry)) place parseNumber (r .value) (r .next) ⌝ }
 {
     let Place::At(at) = place else {
-        return Number {
+        return ParsedNumber {
             value: 0,
             next: Place::Nowhere,
         };
     };
-    let v = value_at(text, at);
+    let v = digits_value_at(text, at);
     if (v < 1) | (v > 48) {
-        return Number {
+        return ParsedNumber {
             value: 0,
             next: Place::Nowhere,
         };
     }
-    Number {
+    ParsedNumber {
         value: v,
-        next: decimal_at(text, place, v),
+        next: parse_decimal(text, place, v),
     }
 }
 
 // A number's decimal, and the byte 10 that ends its line.
-fn decimal_at(text: &[u8], place: Place, v: usize) -> Place
+fn parse_decimal(text: &[u8], place: Place, v: usize) -> Place
     requires { ⌜ v ≤ 48 ⌝ }
-    ensures { λ r. ⌜ readFrom (now (text .entry)) r (parsed tt) ≡ readFrom (now (text .entry)) place (bytes (decimal v ++ (10 ∷ []))) ⌝ }
+    ensures { λ r. ⌜ Parses (now (text .entry)) place (parseExactly (decimal v ++ (10 ∷ []))) tt r ⌝ }
 {
     if v < 10 {
         let one = [48 + v as u8, 10];
-        return bytes_at(text, place, &one);
+        return parse_exactly(text, place, &one);
     }
     let two = [48 + (v / 10) as u8, 48 + (v % 10) as u8, 10];
-    bytes_at(text, place, &two)
+    parse_exactly(text, place, &two)
 }
 
 // `n` characters 0 or 1, into the first bytes of `out`.
-fn flags_at(text: &[u8], place: Place, n: usize, out: &mut [u8]) -> Place
+fn parse_flags(text: &[u8], place: Place, n: usize, out: &mut [u8]) -> Place
     requires { ⌜ n ≤ length (now out) ⌝ }
-    ensures { λ r. ⌜ (drop n (now (out .exit)) ≡ drop n (now (out .entry))) × (readFrom (now (text .entry)) r (parsed (take n (now (out .exit)))) ≡ readFrom (now (text .entry)) place (bitsRead n)) ⌝ }
+    ensures { λ r. ⌜ (drop n (now (out .exit)) ≡ drop n (now (out .entry)))
+        × Parses (now (text .entry)) place (parseAsBytes n) (take n (now (out .exit))) r ⌝ }
 {
     let Place::At(at) = place else {
         return Place::Nowhere;
@@ -153,21 +155,21 @@ fn flags_at(text: &[u8], place: Place, n: usize, out: &mut [u8]) -> Place
 }
 
 // Width and lines that were read, and the place after their lines; then the place after all four.
-struct Sizes {
+struct ParsedShape {
     width: usize,
     lines: usize,
     next: Place,
 }
 
 // The first two lines.
-fn sizes_at(text: &[u8]) -> Sizes
-    ensures { λ r. ⌜ SizesRead (now (text .entry)) r ⌝ }
+fn parse_shape(text: &[u8]) -> ParsedShape
+    ensures { λ r. ⌜ ShapeParsed (now (text .entry)) r ⌝ }
 {
-    let w = number_at(text, bytes_at(text, Place::At(0), b"width="));
+    let w = parse_number(text, parse_exactly(text, Place::At(0), b"width="));
     let first = w.next;
-    let l = number_at(text, bytes_at(text, first, b"lines="));
+    let l = parse_number(text, parse_exactly(text, first, b"lines="));
     let next = l.next;
-    Sizes {
+    ParsedShape {
         width: w.value,
         lines: l.value,
         next,
@@ -175,8 +177,8 @@ fn sizes_at(text: &[u8]) -> Sizes
 }
 
 // How many flags the structure's line has: none where it ends at once.
-fn given_at(text: &[u8], at: usize) -> usize
-    ensures { λ r. ⌜ r ≡ given (drop at (now (text .entry))) ⌝ }
+fn flags_given_at(text: &[u8], at: usize) -> usize
+    ensures { λ r. ⌜ r ≡ flagsGiven (drop at (now (text .entry))) ⌝ }
 {
     if byte_at(text, at) == 10 {
         return 0;
@@ -185,30 +187,30 @@ fn given_at(text: &[u8], at: usize) -> usize
 }
 
 // The structure's flags, into a slice that holds the default.
-fn structure_at(text: &[u8], place: Place, structure: &mut [u8]) -> Place
+fn parse_structure(text: &[u8], place: Place, structure: &mut [u8]) -> Place
     requires { ⌜ now structure ≡ structureBytes [] ⌝ }
-    ensures { λ r. ⌜ readFrom (now (text .entry)) r (parsed (now (structure .exit))) ≡ readFrom (now (text .entry)) place structureRead ⌝ }
+    ensures { λ r. ⌜ Parses (now (text .entry)) place parseStructure (now (structure .exit)) r ⌝ }
 {
     let Place::At(at) = place else {
         return Place::Nowhere;
     };
-    let n = given_at(text, at);
-    flags_at(text, place, n, structure)
+    let n = flags_given_at(text, at);
+    parse_flags(text, place, n, structure)
 }
 
 // All four lines.
-fn frame_at(text: &[u8], structure: &mut [u8], cells: &mut [u8]) -> Sizes
+fn parse_frame(text: &[u8], structure: &mut [u8], cells: &mut [u8]) -> ParsedShape
     requires { ⌜ (now structure ≡ structureBytes []) × (length (now cells) ≡ 2304) ⌝ }
-    ensures { λ r. ⌜ FrameRead (now (text .entry)) (now (structure .exit)) (now (cells .exit)) r ⌝ }
+    ensures { λ r. ⌜ FrameParsed (now (text .entry)) (now (structure .exit)) (now (cells .exit)) r ⌝ }
 {
-    let z = sizes_at(text);
+    let z = parse_shape(text);
     let next = z.next;
-    let a = bytes_at(text, next, b"structure=");
-    let b = structure_at(text, a, structure);
-    let c = bytes_at(text, b, b"\ncells=");
-    let d = flags_at(text, c, z.lines * z.width, cells);
-    let e = bytes_at(text, d, b"\n");
-    Sizes {
+    let a = parse_exactly(text, next, b"structure=");
+    let b = parse_structure(text, a, structure);
+    let c = parse_exactly(text, b, b"\ncells=");
+    let d = parse_flags(text, c, z.lines * z.width, cells);
+    let e = parse_exactly(text, d, b"\n");
+    ParsedShape {
         width: z.width,
         lines: z.lines,
         next: e,
@@ -261,12 +263,6 @@ fn put_decimal(out: &mut [u8], at: usize, n: usize) -> usize
     put(out, to, 48 + (n % 10) as u8)
 }
 
-fn wide(n: u16) -> usize
-    ensures { λ r. ⌜ r ≡ n ⌝ }
-{
-    n as usize
-}
-
 // Numbers with one blank between.
 fn put_decimals(out: &mut [u8], at: usize, numbers: &[u16]) -> usize
     ensures { λ r. ⌜ Adds (decimals (now (numbers .entry))) (now (out .entry)) at (now (out .exit)) r ⌝ }
@@ -274,11 +270,11 @@ fn put_decimals(out: &mut [u8], at: usize, numbers: &[u16]) -> usize
     if numbers.len() == 0 {
         return at;
     }
-    let mut to = put_decimal(out, at, wide(numbers[0]));
+    let mut to = put_decimal(out, at, numbers[0] as usize);
     let mut i: usize = 1;
     while i < numbers.len() {
         to = put(out, to, 32);
-        to = put_decimal(out, to, wide(numbers[i]));
+        to = put_decimal(out, to, numbers[i] as usize);
         i += 1;
     }
     to
@@ -293,8 +289,8 @@ fn put_line(out: &mut [u8], at: usize, name: &[u8], n: usize) -> usize
     put(out, b, 10)
 }
 
-fn put_answer(out: &mut [u8], runs: usize, joins: usize, n: usize, numbers: &[u16]) -> usize
-    ensures { λ r. ⌜ Holds (answer runs joins n (now (numbers .entry))) (now (out .entry)) (now (out .exit)) r ⌝ }
+fn put_labelled_text(out: &mut [u8], runs: usize, joins: usize, n: usize, numbers: &[u16]) -> usize
+    ensures { λ r. ⌜ Holds (labelledText runs joins n (now (numbers .entry))) (now (out .entry)) (now (out .exit)) r ⌝ }
 {
     let a = put_line(out, 0, b"runs=", runs);
     let b = put_line(out, a, b"joins=", joins);
@@ -305,7 +301,7 @@ fn put_answer(out: &mut [u8], runs: usize, joins: usize, n: usize, numbers: &[u1
 }
 
 fn put_refusal(out: &mut [u8], cause: usize) -> usize
-    ensures { λ r. ⌜ Holds (refusal cause) (now (out .entry)) (now (out .exit)) r ⌝ }
+    ensures { λ r. ⌜ Holds (refusalText cause) (now (out .entry)) (now (out .exit)) r ⌝ }
 {
     put_line(out, 0, b"refused=", cause)
 }
@@ -321,7 +317,8 @@ fn label_into(
     numbers: &mut [u16],
 ) -> label::ReadAnswer
     requires { ⌜ LabelReady width lines (now structure) (now cells) (now numbers) (lines * width) ⌝ }
-    ensures { λ r. ⌜ Labels (lines ∷ width ∷ []) (now (structure .entry)) (map nz (now (cells .entry))) (readAnswer r) (now (numbers .exit)) ⌝ }
+    ensures { λ r. ⌜ Labels (lines ∷ width ∷ []) (now (structure .entry)) (map nz (now (cells .entry)))
+        (readAnswer r) (now (numbers .exit)) ⌝ }
 {
     let mut words = [0u32; 9265];
     let shape = [lines, width];
@@ -329,11 +326,17 @@ fn label_into(
 }
 
 // Prints an answer: its figures and the numbers, or its refusal.
-fn put_labelled(out: &mut [u8], answer: label::ReadAnswer, numbers: &[u16]) -> usize
+fn put_answer(out: &mut [u8], answer: label::ReadAnswer, numbers: &[u16]) -> usize
     ensures { λ r. ⌜ Holds (answerText (readAnswer answer) (now (numbers .entry))) (now (out .entry)) (now (out .exit)) r ⌝ }
 {
     match answer {
-        label::ReadAnswer::Accepted { n, runs, joins } => put_answer(out, runs, joins, n, numbers),
+        label::ReadAnswer::Accepted { n, runs, joins } => put_labelled_text(
+            out,
+            runs,
+            joins,
+            n,
+            numbers,
+        ),
         label::ReadAnswer::Refused(cause) => put_refusal(out, cause.number() as usize),
     }
 }
@@ -348,7 +351,8 @@ fn label_frame(
     out: &mut [u8],
 ) -> usize
     requires { ⌜ LabelReady width lines (now structure) (now cells) (now numbers) 2304 ⌝ }
-    ensures { λ r. ⌜ Holds (answerTo (lines ∷ width ∷ []) (now (structure .entry)) (map nz (take (lines * width) (now (cells .entry))))) (now (out .entry)) (now (out .exit)) r ⌝ }
+    ensures { λ r. ⌜ Holds (outputTo (lines ∷ width ∷ []) (now (structure .entry)) (map nz (take (lines * width) (now (cells .entry)))))
+        (now (out .entry)) (now (out .exit)) r ⌝ }
 {
     let size = lines * width;
     let answer = label_into(
@@ -358,7 +362,7 @@ fn label_frame(
         &cells[..size],
         &mut numbers[..size],
     );
-    put_labelled(out, answer, &numbers[..size])
+    put_answer(out, answer, &numbers[..size])
 }
 
 // ---- the program
@@ -366,12 +370,13 @@ fn label_frame(
 // Reads the text, labels its frame and prints the answer into `out`, as far as it reaches; answers the count of bytes printed. No output
 // has more than 11,561 bytes, and no accepted text more than 2,349 (proofs/LengthLaws.antt).
 pub fn report(text: &[u8], out: &mut [u8]) -> usize
-    ensures { λ r. ⌜ (now (out .exit) ≡ overlay (clumpsOf (now (text .entry))) (now (out .entry))) × (r ≡ min (length (clumpsOf (now (text .entry)))) (length (now (out .entry)))) ⌝ }
+    ensures { λ r. ⌜ (now (out .exit) ≡ overlay (clumpsOf (now (text .entry))) (now (out .entry)))
+        × (r ≡ min (length (clumpsOf (now (text .entry)))) (length (now (out .entry)))) ⌝ }
 {
     let mut structure = [0u8, 1, 0, 1, 1, 1, 0, 1, 0];
     let mut cells = [0u8; 2304];
     let mut numbers = [0u16; 2304];
-    let z = frame_at(text, &mut structure, &mut cells);
+    let z = parse_frame(text, &mut structure, &mut cells);
     let end = z.next;
     if at_end(text, end) {
         return label_frame(z.width, z.lines, &structure, &cells, &mut numbers, out);

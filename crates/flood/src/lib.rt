@@ -1,7 +1,9 @@
-// Random numbers, and a plain labelling by flood fill, cell by cell: what the test programs compare with. It calls no other crate.
+// A plain labelling by flood fill, cell by cell, and the words that document 01 lays out for it: what the test programs compare with. It
+// calls no other crate.
 //
 // Nothing is promised of what these functions answer; they are safe and they end. A read out of range gives 0, a write there does nothing,
 // sums wrap, and a product with a number of 65,536 or more is 0.
+pub mod layout;
 
 // ---- guarded access
 
@@ -63,33 +65,6 @@ pub fn word(x: usize) -> u32 {
     (x % 4294967296) as u32
 }
 
-// Each place as x.
-pub fn fill(s: &mut [u32], x: u32) {
-    for i in 0..s.len() {
-        put(s, i, x);
-    }
-}
-
-// ---- random numbers: the first entry of `state` is the last one drawn; a program keeps its counts in the others
-
-pub fn random(state: &mut [u64; 40]) -> u64 {
-    let a = state[0];
-    let b = a ^ (a << 13);
-    let c = b ^ (b >> 7);
-    let d = c ^ (c << 17);
-    state[0] = d;
-    d
-}
-
-// A number below n; 0 where n is 0.
-pub fn below(state: &mut [u64; 40], n: usize) -> usize {
-    let x = random(state);
-    if n == 0 {
-        return 0;
-    }
-    (x % (n as u64)) as usize
-}
-
 // ---- a frame in four dimensions: one of a smaller rank has dimensions of 1 in front, and offsets of 0 there
 
 // The dimensions, the last being the width; the count of lines; and whether the left byte is nonzero.
@@ -129,8 +104,8 @@ pub fn extent_of(shape: &[usize], structure: &[u8]) -> Extent {
 
 const NONE: usize = 4294967295;
 
-// One dimension more of a cell's place: x is the place so far, and the coordinate here is moved by a digit of 0, 1 or 2, which is one more than
-// the offset. NONE where it leaves the frame.
+// One dimension more of a cell's place: x is the place so far, and the coordinate here is moved by a digit of 0, 1 or 2, which is one more
+// than the offset. NONE where it leaves the frame.
 fn moved(x: usize, at: usize, digit: usize, n: usize) -> usize {
     let to = plus(at, digit);
     if (x == NONE) | (to == 0) {
@@ -152,8 +127,8 @@ fn neighbour(e: Extent, cell: usize, code: usize) -> usize {
     moved(x2, part(cell, e.width), code % 3, e.width)
 }
 
-// The cell that a step by a structure's entry leads to, or NONE. Only the backward half counts, and each of its offsets is taken either way:
-// the entry as far behind the middle one is the same offset the other way.
+// The cell that a step by a structure's entry leads to, or NONE. Only the backward half counts, and each of its offsets is taken either
+// way: the entry as far behind the middle one is the same offset the other way.
 fn step_to(e: Extent, structure: &[u8], cell: usize, entry: usize) -> usize {
     let middle = structure.len() / 2;
     let mirrored = less(less(structure.len(), 1), entry);
@@ -166,105 +141,95 @@ fn step_to(e: Extent, structure: &[u8], cell: usize, entry: usize) -> usize {
 
 // ---- the flood fill
 
-// A cell gets the number k and a place in the queue, if it is one of the first `fed`, nonzero and has no number yet.
-// Gives how many are in the queue then.
+// What it writes, for frames of at most 640 cells: the number of each cell; from QUEUE on the cells of a group as they are found; and from
+// NAMES on the number of each run.
+const QUEUE: usize = 640;
+
+const NAMES: usize = 1280;
+
+// A cell gets a number and a place in the queue, if it is one of the first `fed`, nonzero and has no number yet.
+// Gives the end of the queue then.
 fn reach(
     flags: &[u8],
     fed: usize,
-    numbers: &mut [u32],
-    queue: &mut [u32],
-    tail: usize,
+    marks: &mut [u32; 1920],
+    end: usize,
     cell: usize,
-    k: u32,
+    number: u32,
 ) -> usize {
-    let is_new = (cell < fed) & (byte(flags, cell) != 0) & (get(numbers, cell) == 0);
+    let is_new = (cell < fed) & (byte(flags, cell) != 0) & (get(marks, cell) == 0);
     if is_new {
-        put(numbers, cell, k);
-        put(queue, tail, word(cell));
-        return plus(tail, 1);
+        put(marks, cell, number);
+        put(marks, end, word(cell));
+        return plus(end, 1);
     }
-    tail
+    end
 }
 
-// Reaches every cell that one step leads to.
+// Reaches every cell that one step leads to from the cell at a place of the queue, if there is one.
 fn reach_around(
     e: Extent,
     structure: &[u8],
     flags: &[u8],
     fed: usize,
-    numbers: &mut [u32],
-    queue: &mut [u32],
-    from: usize,
-    cell: usize,
-) -> usize {
-    let mut tail = from;
-    let k = get(numbers, cell);
-    for entry in 0..structure.len() {
-        let to = step_to(e, structure, cell, entry);
-        tail = reach(flags, fed, numbers, queue, tail, to, k);
-    }
-    tail
-}
-
-// The same from the cell at a place of the queue, if there is one.
-fn reach_on(
-    e: Extent,
-    structure: &[u8],
-    flags: &[u8],
-    fed: usize,
-    numbers: &mut [u32],
-    queue: &mut [u32],
+    marks: &mut [u32; 1920],
     head: usize,
-    tail: usize,
+    from: usize,
 ) -> usize {
-    if tail <= head {
-        return tail;
+    let mut end = from;
+    let cell = get(marks, head) as usize;
+    let number = get(marks, cell);
+    for entry in 0..times(structure.len(), (head < from) as usize) {
+        let to = step_to(e, structure, cell, entry);
+        end = reach(flags, fed, marks, end, to, number);
     }
-    let cell = get(queue, head) as usize;
-    reach_around(e, structure, flags, fed, numbers, queue, tail, cell)
+    end
 }
 
-// Gives the number k to a cell, if it is the first of its group, and to all that chains join to it. Gives the largest number then.
-// No more cells than `fed` are ever in the queue.
+// Gives a number to a cell, if it is the first of its group, and to all that chains join to it. Gives the largest number then.
 fn spread(
     e: Extent,
     structure: &[u8],
     flags: &[u8],
     fed: usize,
-    numbers: &mut [u32],
-    queue: &mut [u32],
+    marks: &mut [u32; 1920],
     cell: usize,
     n: usize,
 ) -> usize {
-    let k = plus(n, 1);
-    let first = reach(flags, fed, numbers, queue, 0, cell, word(k));
-    let mut tail = first;
-    for head in 0..times(first, fed) {
-        tail = reach_on(e, structure, flags, fed, numbers, queue, head, tail);
+    let mut end = reach(flags, fed, marks, QUEUE, cell, word(plus(n, 1)));
+    let found = (end != QUEUE) as usize;
+    for head in QUEUE..plus(QUEUE, times(found, fed)) {
+        end = reach_around(e, structure, flags, fed, marks, head, end);
     }
-    if first == 0 { n } else { k }
+    plus(n, found)
 }
 
-// Numbers the nonzero cells among the first `fed` by their groups' first cells in C order, all others 0. Gives the count of groups.
+// The count of groups, and of runs.
+pub struct Count {
+    pub n: usize,
+    pub runs: usize,
+}
+
+// Numbers the nonzero cells among the first `fed` by their groups' first cells in C order, and the runs. `marks` holds 0 before.
 pub fn number_cells(
     e: Extent,
     structure: &[u8],
     flags: &[u8],
     fed: usize,
-    numbers: &mut [u32],
-    queue: &mut [u32],
-) -> usize {
-    fill(numbers, 0);
+    marks: &mut [u32; 1920],
+) -> Count {
     let mut n = 0;
     for cell in 0..fed {
-        n = spread(e, structure, flags, fed, numbers, queue, cell, n);
+        n = spread(e, structure, flags, fed, marks, cell, n);
     }
-    n
+    let runs = name_runs(e, flags, fed, marks);
+    Count { n, runs }
 }
 
 // ---- runs and sizes
 
-// Whether a run begins at a cell: with the left byte nonzero a run is a maximal stretch of nonzero cells in a line, otherwise every nonzero cell is one.
+// Whether a run begins at a cell: with the left byte nonzero a run is a maximal stretch of nonzero cells in a line, otherwise every nonzero
+// cell is one.
 pub fn begins_run(flags: &[u8], e: Extent, cell: usize) -> bool {
     let inside = (part(cell, e.width) != 0) & (byte(flags, less(cell, 1)) != 0);
     (byte(flags, cell) != 0) & !(e.left & inside)
@@ -272,7 +237,8 @@ pub fn begins_run(flags: &[u8], e: Extent, cell: usize) -> bool {
 
 // Whether a run's last cell is this one.
 pub fn ends_run(flags: &[u8], e: Extent, cell: usize) -> bool {
-    let inside = (part(plus(cell, 1), e.width) != 0) & (byte(flags, plus(cell, 1)) != 0);
+    let after = plus(cell, 1);
+    let inside = (part(after, e.width) != 0) & (byte(flags, after) != 0);
     (byte(flags, cell) != 0) & !(e.left & inside)
 }
 
@@ -285,18 +251,27 @@ pub fn count_runs(flags: &[u8], e: Extent, fed: usize) -> usize {
     runs
 }
 
-fn count_cell(sizes: &mut [u32], k: usize) {
-    if k != 0 {
-        let at = less(k, 1);
-        let now = get(sizes, at);
-        put(sizes, at, std::num::wrapping_add_u32(now, 1));
+// Each run's number is that of its cells. Gives the count of runs.
+fn name_runs(e: Extent, flags: &[u8], fed: usize, marks: &mut [u32; 1920]) -> usize {
+    let mut runs = 0;
+    for cell in 0..fed {
+        let number = get(marks, cell);
+        put(marks, plus(NAMES, runs), number);
+        runs = plus(runs, begins_run(flags, e, cell) as usize);
     }
+    runs
 }
 
-// The cells of each number.
-pub fn count_cells(numbers: &[u32], fed: usize, sizes: &mut [u32]) {
-    fill(sizes, 0);
+// The number of a run.
+pub fn name(marks: &[u32; 1920], run: usize) -> u32 {
+    get(marks, plus(NAMES, run))
+}
+
+// The cells of each number, the first number's at place 0.
+pub fn count_cells(marks: &[u32; 1920], fed: usize, sizes: &mut [u32]) {
     for cell in 0..fed {
-        count_cell(sizes, get(numbers, cell) as usize);
+        let at = less(get(marks, cell) as usize, 1);
+        let size = std::num::wrapping_add_u32(get(sizes, at), 1);
+        put(sizes, at, size);
     }
 }

@@ -72,14 +72,16 @@ pub struct Uf<'a> {
 impl<'a> Uf<'a> {
     pub fn find(&mut self, x: usize) -> usize
         requires { ⌜ Parents (now (now self .p)) (suc x) ⌝ }
-        ensures { λ s. ⌜ Finds (now (now (self .entry) .p)) (now (now (self .exit) .p)) x s × (now (self .exit) .p ≡ at-last (now (self .entry) .p) (now (now (self .exit) .p))) ⌝ }
+        ensures { λ s. ⌜ Finds (now (now (self .entry) .p)) (now (now (self .exit) .p)) x s
+            × (now (self .exit) .p ≡ at-last (now (self .entry) .p) (now (now (self .exit) .p))) ⌝ }
     {
         find(&mut *self.p, x)
     }
 
     pub fn union(&mut self, a: usize, b: usize) -> bool
         requires { ⌜ Parents (now (now self .p)) (suc (max a b)) ⌝ }
-        ensures { λ t. ⌜ Unites (now (now (self .entry) .p)) (now (now (self .exit) .p)) a b t × (now (self .exit) .p ≡ at-last (now (self .entry) .p) (now (now (self .exit) .p))) ⌝ }
+        ensures { λ t. ⌜ Unites (now (now (self .entry) .p)) (now (now (self .exit) .p)) a b t
+            × (now (self .exit) .p ≡ at-last (now (self .entry) .p) (now (now (self .exit) .p))) ⌝ }
     {
         union(&mut *self.p, a, b)
     }

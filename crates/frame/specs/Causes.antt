@@ -75,7 +75,8 @@ sizesCause sound out n = firstCause (sizesTests sound out n)
 -- whole frame: 1 to 5, 8, 9, 10. The counts of words, of cells and of output places, and whether the kind holds n
 unfoldable pub frameTests : List ℕ → List ℕ → ℕ → ℕ → ℕ → Bool → List Test
 frameTests shape structure memory cells out fits =
-    openTests shape structure memory ++ when (not (eqb cells (size shape))) 8 ∷ when (not (eqb out (size shape))) 9 ∷ when (not fits) 10 ∷ []
+    openTests shape structure memory
+    ++ when (not (eqb cells (size shape))) 8 ∷ when (not (eqb out (size shape))) 9 ∷ when (not fits) 10 ∷ []
 
 unfoldable pub frameCause : List ℕ → List ℕ → ℕ → ℕ → ℕ → Bool → ℕ
 frameCause shape structure memory cells out fits = firstCause (frameTests shape structure memory cells out fits)

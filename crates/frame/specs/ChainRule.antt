@@ -54,7 +54,8 @@ any f (suc n) = f n || any f n
 
 unfoldable pub leadsBy : List ℕ → List ℕ → ℕ → ℕ → ℕ → Bool
 leadsBy shape structure p q c =
-    backward (offset (length shape) c) && (on structure c && sameList (zipWith _+_ (coords shape p) (offset (length shape) c)) (map suc (coords shape q)))
+    backward (offset (length shape) c)
+    && (on structure c && sameList (zipWith _+_ (coords shape p) (offset (length shape) c)) (map suc (coords shape q)))
 
 unfoldable pub step : List ℕ → List ℕ → List Bool → ℕ → ℕ → Bool
 step shape structure cells p q = nonzero cells p && (nonzero cells q && any (leadsBy shape structure p q) (3 ^ length shape))

@@ -91,7 +91,8 @@ nine =
       structure = C;
       memory = 28;
       calls = feed 1 (u8s (d 3 101)) ∷ read u8 (o 9) ∷ feed 1 (u8s (d 3 101)) ∷ read u8 (o 9) ∷ feed 1 (u8s (d 3 111)) ∷ read u8 (o 9) ∷ [];
-      answers = fedAll 1 2 0 ∷ got u8 2 2 0 (d 9 102000000) ∷ fedAll 2 4 2 ∷ got u8 2 4 2 (d 9 102102000) ∷ fedAll 3 5 4 ∷ got u8 1 5 4 (d 9 101101111) ∷ [];
+      answers = fedAll 1 2 0 ∷ got u8 2 2 0 (d 9 102000000) ∷ fedAll 2 4 2 ∷ got u8 2 4 2 (d 9 102102000)
+          ∷ fedAll 3 5 4 ∷ got u8 1 5 4 (d 9 101101111) ∷ [];
     }
     -- 2
     ∷ whole (3 ∷ 4 ∷ []) C (d 12 110100011011) 3 5 2 (d 12 110200023022)

@@ -116,4 +116,8 @@ module _ (shape : List ℕ) where
 
 -- a list of calls from its opening on, where `memory` is the count of words: an opening that is refused has its number only
 unfoldable pub session : List ℕ → List ℕ → ℕ → List Call → List Answered
-session shape structure memory calls = elim (openCause shape structure memory) [ zero ↦ plain shape (opened structure) calls | suc c ↦ record { said = refused (suc c); written = nothing } ∷ [] ]
+session shape structure memory calls =
+    elim (openCause shape structure memory) [
+      | zero ↦ plain shape (opened structure) calls
+      | suc c ↦ record { said = refused (suc c); written = nothing } ∷ []
+    ]

@@ -38,7 +38,7 @@ reaches prev adj next m c =
 -- a leading offset, an offset's part in the leading dimensions, has the three bytes that begin at three times its code. It is
 -- used if lexicographically negative, with any of its three bytes nonzero
 unfoldable pub used : List ℕ → ℕ → ℕ → Bool
-used structure rank k = backward (offset rank k) && (on structure (3 * k) || (on structure (3 * k + 1) || on structure (3 * k + 2)))
+used structure rank c = backward (offset rank c) && (on structure (3 * c) || (on structure (3 * c + 1) || on structure (3 * c + 2)))
 
 -- The neighbour's line is found by coordinates: one coordinate out of range means no neighbour, even where the line number would
 -- fit. Here ds are the leading dimensions and ts the offset's digits: has line ℓ that neighbour, and which line is it?
@@ -57,12 +57,13 @@ nbrLine (d ∷ ds) (t ∷ ts) ℓ = (ℓ / size ds + t - 1) * size ds + nbrLine 
 -- ds are the leading dimensions. Line ℓ has the runs from number S ℓ to before S (ℓ + 1), and R r is run r. An edge leads from
 -- the current run to the neighbouring one
 module _ (ds structure : List ℕ) (S : ℕ → ℕ) (R : ℕ → Run) where
-  -- of line ℓ, by the leading offset with code k: each current run in turn, with each neighbouring run in turn
+  -- of line ℓ, by the leading offset with code c: each current run in turn, with each neighbouring run in turn
   unfoldable pub touchesBy : ℕ → ℕ → List Edge
-  touchesBy ℓ k =
-      let m = nbrLine ds (offset (length ds) k) ℓ in
-      cond (used structure (length ds) k && hasNbr ds (offset (length ds) k) ℓ)
-      (pairs (λ r s. reaches (on structure (3 * k)) (on structure (3 * k + 1)) (on structure (3 * k + 2)) (R s) (R r)) (S ℓ) (S (suc ℓ) - S ℓ) (S m) (S (suc m) - S m)) []
+  touchesBy ℓ c =
+      let m = nbrLine ds (offset (length ds) c) ℓ in
+      cond (used structure (length ds) c && hasNbr ds (offset (length ds) c) ℓ)
+      (pairs (λ r s. reaches (on structure (3 * c)) (on structure (3 * c + 1)) (on structure (3 * c + 2)) (R s) (R r))
+      (S ℓ) (S (suc ℓ) - S ℓ) (S m) (S (suc m) - S m)) []
 
   -- of line ℓ, by each leading offset in C order
   unfoldable pub touchesOf : ℕ → List Edge
@@ -74,4 +75,5 @@ module _ (ds structure : List ℕ) (S : ℕ → ℕ) (R : ℕ → Run) where
 
 -- the touches of a frame's lines, n of them from line a on
 abbrev pub frameTouches : List ℕ → List ℕ → List Bool → ℕ → ℕ → List Edge
-frameTouches shape structure cells a n = touches (leading shape) structure (runsBefore shape structure cells) (frameRun shape structure cells) a n
+frameTouches shape structure cells a n =
+    touches (leading shape) structure (runsBefore shape structure cells) (frameRun shape structure cells) a n

@@ -13,7 +13,20 @@ use Rattle.frame.specs.Shape.{size, width, leading, lines}
 use Rattle.frame.specs.Causes.{badRank, hasZero}
 use Rattle.frame.proofs.EntryLaws.{length-entries, getD-entries}
 use Rattle.frame.proofs.CauseLaws.{rank-right}
-use Rattle.link.proofs.CoordinateLaws.{three-entries, size-ones}
+
+-- a list of three is known by its places
+pub three-entries : {A : Type 0} (z : A) (l : List A) → length l ≡ 3 → l ≡ getD l 0 z ∷ getD l 1 z ∷ getD l 2 z ∷ []
+three-entries z [] h = absurd (omega arith)
+three-entries z (a ∷ []) h = absurd (omega arith)
+three-entries z (a ∷ (b ∷ [])) h = absurd (omega arith)
+three-entries z (a ∷ (b ∷ (c ∷ []))) h = refl
+three-entries z (a ∷ (b ∷ (c ∷ (d ∷ l)))) h = absurd (omega arith)
+
+-- a dimension of 1 in front changes no product
+pub size-ones : (j : ℕ) (ds : List ℕ) → size (replicate j 1 ++ ds) ≡ size ds
+unfolding size
+size-ones zero ds = refl
+size-ones (suc j) ds = let e = size-ones j ds in omega arith
 
 -- ---- rank
 
@@ -53,7 +66,7 @@ module _ (rank : ℕ) (shape : List ℕ) where
 
 -- ---- a dimension of 0
 
-zero-ones : (k : ℕ) (l : List ℕ) → hasZero (replicate k 1 ++ l) ≡ hasZero l
+pub zero-ones : (k : ℕ) (l : List ℕ) → hasZero (replicate k 1 ++ l) ≡ hasZero l
 unfolding hasZero
 zero-ones zero l = refl
 zero-ones (suc k) l = zero-ones k l
@@ -68,9 +81,8 @@ zero-three a b c = go (eqb a 0) (eqb b 0) (eqb c 0)
     go false false true = refl
     go false false false = refl
 
-pub zero-dims : (rank : ℕ) (shape dims : List ℕ) → length dims ≡ 3 → dims ≡ three rank shape → (eqb (getD dims 0 0) 0 || eqb (getD dims 1 0) 0) || eqb (getD dims 2 0) 0 ≡ hasZero (leading (entries rank shape))
-zero-dims rank shape dims l e =
-    zero-three (getD dims 0 0) (getD dims 1 0) (getD dims 2 0) ∙ ap hasZero (sym (three-entries 0 dims l) ∙ e) ∙ zero-ones (4 - rank) (leading (entries rank shape))
+pub zero-dims : (dims : List ℕ) → length dims ≡ 3 → (eqb (getD dims 0 0) 0 || eqb (getD dims 1 0) 0) || eqb (getD dims 2 0) 0 ≡ hasZero dims
+zero-dims dims l = zero-three (getD dims 0 0) (getD dims 1 0) (getD dims 2 0) ∙ ap hasZero (sym (three-entries 0 dims l))
 
 -- ---- width
 

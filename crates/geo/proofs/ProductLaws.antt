@@ -7,7 +7,7 @@ use native.Mathlib.Nat.{zero-mul, mul-zero, mul-one, one-mul, mul-assoc, mul-le-
 use native.Mathlib.Omega.{arith, min-cases}
 use lib.ListN.{length, getD}
 use Rattle.frame.specs.Shape.{size}
-use Rattle.link.proofs.CoordinateLaws.{three-entries}
+use Rattle.geo.proofs.DimsLaws.{three-entries}
 
 -- a * b, with the limit M
 module _ (M a b : ℕ) where

@@ -1,22 +1,24 @@
 -- Which shape, memory and lines fed may stand in a record: the test decides it, and what each condition of `shapeSound` answers.
 -- Assumes nothing.
-use mathlib.Core.Path.{_≡_, refl, sym, ap, _∙_}
-use mathlib.Core.Bool.{Bool, true, false, not, _||_, true≢false}
+use mathlib.Core.Path.{_≡_, refl, sym, ap, ap₂, _∙_}
+use mathlib.Core.Bool.{Bool, true, false, not, _||_, _&&_, true≢false}
 use mathlib.Core.List.{List}
-use Prim.Native.Nat.{ℕ, zero, suc, _^_, _≤_, _<_}
+use Prim.Native.Nat.{ℕ, zero, suc, _^_, _≤_}
 use native.Mathlib.Omega.{arith}
 use borrow.Author.Tests.{leb-true, le-leb, not-true}
 use lib.Dec.{eqb, ltb, leb}
 use lib.ListN.{length}
-use Rattle.groups.proofs.BoolLaws.{bool-same}
+use Rattle.groups.proofs.BoolLaws.{bool-same, and-true, and-left, and-right}
 use Rattle.frame.specs.Lists.{entries}
-use Rattle.frame.specs.Shape.{leading, lines}
+use Rattle.frame.specs.Shape.{lines}
 use Rattle.frame.specs.Memory.{wordsNeeded}
 use Rattle.frame.specs.Causes.{badRank, hasZero, tooLarge}
 use Rattle.frame.proofs.EntryLaws.{length-entries}
 use Rattle.frame.proofs.ListLaws.{every-at, every-more, every-none}
-use Rattle.geo.specs.Geometry.{GeoReady, ShapeSound, shapeSound}
+use Rattle.geo.specs.declared.Geo.{Geo}
+use Rattle.geo.specs.Geometry.{ShapeReady, Measured, GeoOf, WithinLimits, largeGeo, wordsOf, ShapeSound, shapeSound}
 use Rattle.geo.proofs.DimsLaws.{bad-rank-is, rank-limits}
+use Rattle.geo.proofs.GeoLaws.{measured-zero, measured-large, measured-geo, not-large, geo-words}
 
 -- the test of a rank is that of a shape of that rank
 pub rank-test : (rank : ℕ) (shape : List ℕ) (a b : Bool) → a ≡ (eqb rank 0 || ltb 4 rank) → a ≡ b → badRank (entries rank shape) ≡ b
@@ -31,9 +33,9 @@ bytes-few (suc (suc (suc zero))) h = omega arith
 bytes-few (suc (suc (suc (suc zero)))) h = omega arith
 bytes-few (suc (suc (suc (suc (suc n))))) h = absurd (omega arith)
 
-module _ (rank : ℕ) (shape structure : List ℕ) where
-  pub array-ready : length structure ≡ 81 → badRank (entries rank shape) ≡ false → tooLarge (entries rank shape) ≡ false → GeoReady rank shape structure
-  array-ready long ranked limits = record { ranked = ranked; limits = limits; bytes = omega (arith, bytes-few rank (rank-limits rank shape ranked .1)) }
+-- so a record's arrays have the structure's bytes
+pub array-ready : (rank : ℕ) (shape structure : List ℕ) → length structure ≡ 81 → badRank (entries rank shape) ≡ false → ShapeReady rank shape structure
+array-ready rank shape structure long ranked = record { ranked = ranked; bytes = omega (arith, bytes-few rank (rank-limits rank shape ranked .1)) }
 
 module _ (dims bytes : List ℕ) (memory fed : ℕ) where
   -- ---- the test decides
@@ -69,19 +71,44 @@ module _ (dims bytes : List ℕ) (memory fed : ℕ) where
   pub rank-breaks : badRank dims ≡ true → false ≡ shapeSound dims bytes memory fed
   rank-breaks bad = shape-unsound (λ A. true≢false (sym bad ∙ A .ranked))
 
-  pub zero-breaks : (t : Bool) → t ≡ hasZero (leading dims) → t ≡ true → false ≡ shapeSound dims bytes memory fed
-  zero-breaks t is e = shape-unsound (λ A. true≢false (sym e ∙ is ∙ A .dimensions))
+-- ---- of a record's arrays, where the rank is 1 to 4, by their geometry
 
-  pub large-breaks : (t : Bool) → t ≡ tooLarge dims → t ≡ true → false ≡ shapeSound dims bytes memory fed
-  large-breaks t is e = shape-unsound (λ A. true≢false (sym e ∙ is ∙ A .limits))
+module _ (rank : ℕ) (shape structure : List ℕ) (ranked : badRank (entries rank shape) ≡ false) (g : Geo) (G : Measured rank shape structure g) (memory fed : ℕ) where
+  abbrev told : Bool
+  told = shapeSound (entries rank shape) (entries (3 ^ rank) structure) memory fed
 
-  module _ (needed : ℕ) (is : needed ≡ wordsNeeded dims bytes) where
-    pub memory-breaks : memory < needed → false ≡ shapeSound dims bytes memory fed
-    memory-breaks h = shape-unsound (λ A. omega (arith, A .memory))
+  pub dims-break : hasZero (g .dims) || largeGeo g ≡ true → false ≡ told
+  dims-break h = shape-unsound _ _ memory fed (λ A. true≢false (sym h ∙ ap₂ _||_ (measured-zero rank shape structure ranked g G ∙ A .dimensions) (measured-large rank shape structure ranked g G ∙ A .limits)))
 
-    -- where none of them holds, the lines fed decide
-    pub lines-decide : badRank dims ≡ false → hasZero (leading dims) ≡ false → tooLarge dims ≡ false → needed ≤ memory → (l : ℕ) → l ≡ lines dims → leb fed l ≡ shapeSound dims bytes memory fed
-    lines-decide ranked dimensions limits enough l e =
-        bool-same (leb fed l) (shapeSound dims bytes memory fed)
-        (λ t. right-shape-sound (record { ranked = ranked; dimensions = dimensions; limits = limits; memory = omega (arith, is, enough); within = omega (arith, e, leb-true fed l t) }))
-        (λ t. le-leb fed l (omega (arith, e, shape-sound-right t .within)))
+  -- where they do not, memory and lines fed decide
+  module _ (h : hasZero (g .dims) || largeGeo g ≡ false) where
+    none : (hasZero (g .dims) ≡ false) × (largeGeo g ≡ false)
+    none = go (hasZero (g .dims)) (largeGeo g) h
+      where
+        go : (a b : Bool) → a || b ≡ false → (a ≡ false) × (b ≡ false)
+        go true b e = absurd (true≢false e)
+        go false b e = (refl, e)
+
+    limits : tooLarge (entries rank shape) ≡ false
+    limits = sym (measured-large rank shape structure ranked g G) ∙ none .1
+
+    pub found-limits : WithinLimits g
+    found-limits = not-large g (none .1)
+
+    pub found-geo : GeoOf rank shape structure g
+    found-geo = measured-geo rank shape structure ranked g G limits
+
+    words-are : wordsOf g ≡ wordsNeeded (entries rank shape) (entries (3 ^ rank) structure)
+    words-are = geo-words rank shape structure g found-geo
+
+    pub rest-decides : (needed : ℕ) → needed ≡ wordsOf g → leb needed memory && leb fed (g .lines) ≡ told
+    rest-decides needed is =
+        bool-same (leb needed memory && leb fed (g .lines)) told
+        (λ t. right-shape-sound _ _ memory fed (record {
+          ranked = ranked;
+          dimensions = sym (measured-zero rank shape structure ranked g G) ∙ none .0;
+          limits = limits;
+          memory = omega (arith, is, words-are, leb-true needed memory (and-left (leb needed memory) (leb fed (g .lines)) t));
+          within = omega (arith, found-geo .lines-is, leb-true fed (g .lines) (and-right (leb needed memory) (leb fed (g .lines)) t));
+        }))
+        (λ t. let A = shape-sound-right _ _ memory fed t in and-true (leb needed memory) (leb fed (g .lines)) (le-leb needed memory (omega (arith, is, words-are, A .memory))) (le-leb fed (g .lines) (omega (arith, found-geo .lines-is, A .within))))

@@ -1,10 +1,10 @@
 // Shape and structure as numbers, as in the Rust's `Geo`. A shape is an array of four dimensions of which the first `rank` count; a
 // structure is lent, and its first 3^rank bytes count.
 //
-//     geo_of                           leading dimensions, lines, width and left byte, where the shape is not too large
-//     words_needed                     the words of memory that a session needs
+//     geo_of                           leading dimensions, lines, width and left byte, worked out once for a call and handed on
 //     bad_rank, has_zero, too_large    causes 1, 3 and 4
-//     shape_sound                      whether shape, memory and lines fed are such as a sound record's
+//     words_needed                     the words of memory that a session needs
+//     shape_sound                      whether shape, memory and lines fed are such as a sound record's, and their geometry
 //     shape_of, structure_of           the arrays of a lent shape and structure
 ghost use mathlib.Core.Path.{_≡_};
 ghost use mathlib.Core.Bool.{false, _||_};
@@ -15,35 +15,36 @@ ghost use lib.ListN.{length, replicate};
 ghost use Rattle.frame.specs.Lists.{entries, padded};
 ghost use Rattle.frame.specs.Shape.{size, width, leading};
 ghost use Rattle.frame.specs.Structure.{on, leftCode};
-ghost use Rattle.frame.specs.Memory.{mostRuns, wordsNeeded};
-ghost use Rattle.frame.specs.Causes.{badRank, hasZero, tooLarge};
-ghost use Rattle.geo.specs.Geometry.{GeoReady, GeoOf, shapeSound};
+ghost use Rattle.frame.specs.Memory.{mostRuns};
+ghost use Rattle.frame.specs.Causes.{badRank, hasZero};
+ghost use Rattle.geo.specs.Geometry.{ShapeReady, Measured, WithinLimits, largeGeo, wordsOf, ShapeFound};
 
 // The first width, and the first count of lines or of cells, that is too large.
 const WIDTH_LIMIT: usize = 2147483647;
 
 const LIMIT: usize = 4294967293;
 
-// The leading dimensions as three, those before the first being 1, and how many there are; lines, width, and whether the left byte
+// How many leading dimensions there are, and they as three, those before the first being 1; lines, width, and whether the left byte
 // is nonzero.
 pub struct Geo {
-    pub n: usize,
+    pub leads: usize,
     pub dims: [usize; 3],
     pub lines: usize,
     pub width: usize,
     pub left: bool,
 }
 
+// Lines that are too many are counted as the limit, which is too many.
 pub fn geo_of(rank: usize, shape: [usize; 4], structure: &[u8]) -> Geo
-    requires { ⌜ GeoReady rank shape (now structure) ⌝ }
-    ensures { λ g. ⌜ GeoOf rank shape (now (structure .entry)) g ⌝ }
+    requires { ⌜ ShapeReady rank shape (now structure) ⌝ }
+    ensures { λ g. ⌜ Measured rank shape (now (structure .entry)) g ⌝ }
 {
     let dims = leading_dims(rank, shape);
     let lines = limited_lines(dims);
     let width = last_dim(rank, shape);
     let left = left_byte(rank, structure);
     Geo {
-        n: rank - 1,
+        leads: rank - 1,
         dims,
         lines,
         width,
@@ -51,12 +52,22 @@ pub fn geo_of(rank: usize, shape: [usize; 4], structure: &[u8]) -> Geo
     }
 }
 
+// A geometry that stands beside a refusal, and says nothing.
+pub fn no_geo() -> Geo {
+    Geo {
+        leads: 0,
+        dims: [1; 3],
+        lines: 0,
+        width: 0,
+        left: false,
+    }
+}
+
 // L + 1 + 4 × L × h.
-pub fn words_needed(rank: usize, shape: [usize; 4], structure: &[u8]) -> usize
-    requires { ⌜ GeoReady rank shape (now structure) ⌝ }
-    ensures { λ r. ⌜ r ≡ wordsNeeded (entries rank shape) (entries (3 ^ rank) (now (structure .entry))) ⌝ }
+pub fn words_needed(g: Geo) -> usize
+    requires { ⌜ WithinLimits g ⌝ }
+    ensures { λ r. ⌜ r ≡ wordsOf g ⌝ }
 {
-    let g = geo_of(rank, shape, structure);
     let h = most_runs(g.left, g.width);
     g.lines + 1 + frame::STRIDE * g.lines * h
 }
@@ -82,50 +93,52 @@ pub fn bad_rank(rank: usize) -> bool
 }
 
 // 3: a leading dimension is 0.
-pub fn has_zero(rank: usize, shape: [usize; 4]) -> bool
-    requires { ⌜ badRank (entries rank shape) ≡ false ⌝ }
-    ensures { λ r. ⌜ r ≡ hasZero (leading (entries rank shape)) ⌝ }
+pub fn has_zero(g: Geo) -> bool
+    ensures { λ r. ⌜ r ≡ hasZero (g .dims) ⌝ }
 {
-    let dims = leading_dims(rank, shape);
+    let dims = g.dims;
     (dims[0] == 0) | (dims[1] == 0) | (dims[2] == 0)
 }
 
 // 4: w ≥ 2,147,483,647, or L or L × w ≥ 4,294,967,293. Products that do not fit are too large.
-pub fn too_large(rank: usize, shape: [usize; 4]) -> bool
-    requires { ⌜ badRank (entries rank shape) ≡ false ⌝ }
-    ensures { λ r. ⌜ r ≡ tooLarge (entries rank shape) ⌝ }
+pub fn too_large(g: Geo) -> bool
+    requires { ⌜ g .lines ≤ 4294967293 ⌝ }
+    ensures { λ r. ⌜ r ≡ largeGeo g ⌝ }
 {
-    let w = last_dim(rank, shape);
-    let lines = limited_lines(leading_dims(rank, shape));
-    let cells = product(lines, w);
-    (w >= WIDTH_LIMIT) | (lines >= LIMIT) | (cells >= LIMIT)
+    let cells = product(g.lines, g.width);
+    (g.width >= WIDTH_LIMIT) | (g.lines >= LIMIT) | (cells >= LIMIT)
 }
 
-// Whether shape, memory and lines fed are such as a sound record's, whatever they are: no cause 1, 3 or 4, the words that are
-// needed, no line too many. `memory` is the count of words.
+// ---- shapes that may stand in a record
+
+// Whether shape, memory and lines fed are such as a sound record's, and where they are their geometry.
+pub struct Shaped {
+    pub sound: bool,
+    pub geo: Geo,
+}
+
+// No cause 1, 3 or 4, the words that are needed, no line too many; whatever the arrays hold. `memory` is the count of words.
 pub fn shape_sound(
     rank: usize,
     shape: [usize; 4],
     structure: &[u8; 81],
     memory: usize,
     fed: usize,
-) -> bool
-    ensures { λ r. ⌜ r ≡ shapeSound (entries rank shape) (entries (3 ^ rank) (now (structure .entry))) memory fed ⌝ }
+) -> Shaped
+    ensures { λ f. ⌜ ShapeFound rank shape (now (structure .entry)) memory fed f ⌝ }
 {
     if bad_rank(rank) {
-        return false;
+        return Shaped {
+            sound: false,
+            geo: no_geo(),
+        };
     }
-    if has_zero(rank, shape) {
-        return false;
+    let geo = geo_of(rank, shape, structure);
+    if has_zero(geo) | too_large(geo) {
+        return Shaped { sound: false, geo };
     }
-    if too_large(rank, shape) {
-        return false;
-    }
-    if memory < words_needed(rank, shape, structure) {
-        return false;
-    }
-    let g = geo_of(rank, shape, structure);
-    fed <= g.lines
+    let sound = (words_needed(geo) <= memory) & (fed <= geo.lines);
+    Shaped { sound, geo }
 }
 
 // ---- dimensions

@@ -7,13 +7,14 @@ use Prim.Native.Nat.{ℕ}
 use lib.ListN.{set, replicate, take}
 use Rattle.frame.specs.Kinds.{u16, u32, u8}
 use Rattle.frame.specs.Plain.{Answer, fed, counted, refused}
-use Rattle.label.specs.declared.Cause.the-variants as C
+use Rattle.causes.specs.declared.Cause.the-variants as C
 use Rattle.label.specs.declared.FeedAnswer.the-variants as F
 use Rattle.label.specs.declared.OpenAnswer.the-variants as O
 use Rattle.label.specs.declared.ReadAnswer.the-variants as R
 use Rattle.label.specs.declared.Session.{Session}
 use Rattle.label.specs.Sound.{sound}
-use Rattle.label.specs.Cases.{causeNumber, openNumber, feedAnswer, readAnswer}
+use Rattle.causes.specs.Cases.{causeNumber}
+use Rattle.label.specs.Cases.{openNumber, feedAnswer, readAnswer}
 use Rattle.label.specs.Opening.{openRecord, blank}
 use Rattle.label.specs.WholeFrame.{chop, blockLines, blocks}
 use Rattle.label.proofs.CallFunctions.{FeedResult, ReadResult, doOpen, doFeed, doRead, doSizes, doFrame}

@@ -25,18 +25,20 @@ use Rattle.frame.proofs.TouchLaws.{touches-same, touches-bytes}
 use Rattle.forest.specs.Forest.{own, nonRoots, grouping}
 use Rattle.forest.proofs.ForestLaws.{grouping-joins}
 use Rattle.forest.proofs.ResetLaws.{grouping-same}
-use Rattle.link.specs.Sweeps.{InOrder}
-use Rattle.link.specs.Lines.{leadingOf, ThreeDims}
+use Rattle.sweep.specs.Sweeps.{InOrder}
+use Rattle.geo.specs.Geometry.{leadingOf, ThreeDims}
 use Rattle.geo.specs.declared.Geo.{Geo}
 use Rattle.geo.specs.Geometry.{GeoOf}
-use Rattle.block.specs.Blocks.{linesRuns, BlockRoom, Block, BlockReady, touchesFrom, BlockUnited}
+use Rattle.block.specs.Blocks.{linesRuns, BlockRoom, Block, BlockReady, touchesFrom, BlockUnited, RoomFor, Extracts}
+use Rattle.causes.specs.declared.Checked.{Checked}
+use Rattle.causes.specs.Cases.{checkNumber}
 use Rattle.label.specs.declared.Session.{Session}
 use Rattle.label.specs.Record.{shapeOf, structureOf, linesOf, withFigures}
 use Rattle.label.specs.Sound.{Sound}
 use Rattle.label.specs.Held.{cellsOf}
-use Rattle.label.specs.Feeding.{runsAfter, startAfter, runAfter, feedTouches, feedEdges, feedRecord, FeedWords}
-use Rattle.label.specs.Steps.{FeedAccepted, FeedExtracted, FeedDone}
-use Rattle.label.proofs.AcceptedLaws.{accepted-fits}
+use Rattle.label.specs.Feeding.{feedCauseOf, runsAfter, startAfter, runAfter, feedTouches, feedEdges, feedRecord, FeedWords}
+use Rattle.label.specs.Steps.{RecordFound, FeedAccepted, FeedExtracted, FeedDone}
+use Rattle.label.proofs.AcceptedLaws.{accepted-fits, cause-accepted}
 use Rattle.label.proofs.RecordGeometry.{geo-lines, geo-width, geo-left}
 use Rattle.label.proofs.StoreLaws.{Stores}
 use Rattle.label.proofs.StoredSound.{stores-ordered}
@@ -198,9 +200,9 @@ module _ (s : Session) (ws : List ℕ) (k : ℕ) (more : List Bool) (G : FeedAcc
       unfolding shapeOf
       lines-is = K .lines-is
 
-      pub block-ready : BlockReady (g .n) (g .dims) L (s .structure) ws₁ (s .fed) k
+      pub block-ready : BlockReady (g .leads) (g .dims) L (s .structure) ws₁ (s .fed) k
       block-ready = record {
-        leading = subst (ThreeDims (g .n) (g .dims)) lines-is (K .three);
+        leading = subst (ThreeDims (g .leads) (g .dims)) lines-is (K .three);
         bytes = rw (← K .rank-is) long;
         within = below;
         room = rw (last-start, B .long) room-all;
@@ -209,14 +211,14 @@ module _ (s : Session) (ws : List ℕ) (k : ℕ) (more : List Bool) (G : FeedAcc
       }
 
       -- the touches of the new lines are those of the promise
-      touches-are : touchesFrom (g .n) (g .dims) L (s .structure) ws₁ (s .fed) k ≡ feedTouches s ws k more
+      touches-are : touchesFrom (g .leads) (g .dims) L (s .structure) ws₁ (s .fed) k ≡ feedTouches s ws k more
       touches-are =
           ap (λ (ds : List ℕ). touches ds (s .structure) (lineStart ws₁) (storedRun L ws₁) (s .fed) k) leading-is
           ∙ touches-bytes (leading shape) (s .structure) structure (lineStart ws₁) (storedRun L ws₁) first-bytes (s .fed) k
           ∙ sym (touches-same (leading shape) structure (runsBefore shape structure (cells ++ more)) (lineStart ws₁) (frameRun shape structure (cells ++ more)) (storedRun L ws₁) (s .fed + k) starts (start-le shape structure (cells ++ more)) listed below (s .fed) k (le-refl (s .fed + k)))
           ∙ sym (touches-after s ws cells H k more (G .few) (G .whole))
         where
-          leading-is : leadingOf (g .n) (g .dims) ≡ leading shape
+          leading-is : leadingOf (g .leads) (g .dims) ≡ leading shape
           leading-is = unfold shapeOf in K .leading-is
 
           rank-leading : s .rank ≡ suc (length (leading shape))
@@ -233,8 +235,8 @@ module _ (s : Session) (ws : List ℕ) (k : ℕ) (more : List Bool) (G : FeedAcc
           listed : (r : ℕ) → r < runsBefore shape structure (cells ++ more) (s .fed + k) → frameRun shape structure (cells ++ more) r ≡ storedRun L ws₁ r
           listed r h = sym (unfold feedRecord shapeOf structureOf in stores₁ .listed r (rw (runs-after s ws cells H k more (G .few) (G .whole)) h))
 
-      module _ (ws₂ : List ℕ) (t : ℕ) (U : BlockUnited (g .n) (g .dims) L (s .structure) ws₁ ws₂ (s .fed) k t) where
-        edges-are : visit (touchesFrom (g .n) (g .dims) L (s .structure) ws₁ (s .fed) k) (grouping (parentOf L ws₁) (lineStart ws₁ (s .fed))) ≡ feedEdges s ws k more
+      module _ (ws₂ : List ℕ) (t : ℕ) (U : BlockUnited (g .leads) (g .dims) L (s .structure) ws₁ ws₂ (s .fed) k t) where
+        edges-are : visit (touchesFrom (g .leads) (g .dims) L (s .structure) ws₁ (s .fed) k) (grouping (parentOf L ws₁) (lineStart ws₁ (s .fed))) ≡ feedEdges s ws k more
         unfolding feedEdges
         edges-are = ap₂ visit touches-are (ap (grouping (parentOf L ws₁)) fed-start ∙ grouping-same (parentOf L ws₁) (parentOf L ws) (s .runs) (λ r h. parents-stand r))
 
@@ -268,26 +270,36 @@ module _ (s : Session) (ws : List ℕ) (k : ℕ) (more : List Bool) (G : FeedAcc
 
 -- ---- the same, in the names of the record's geometry
 
-not-not : (b : Bool) → not (not b) ≡ b
-not-not true = refl
-not-not false = refl
-
 module _ (s : Session) (ws : List ℕ) (k : ℕ) (more : List Bool) (G : FeedAccepted s ws k more) (g : Geo) (K : GeoOf (s .rank) (s .shape) (s .structure) g) where
-  left-is : not (not (g .left)) ≡ leftOn (shapeOf s) (structureOf s)
-  left-is = not-not (g .left) ∙ geo-left s ws g K
+  pub feed-room : RoomFor g (s .fed) (s .runs) k more ws
+  feed-room = rw (geo-left s ws g K, geo-width s ws g K, geo-lines s ws g K) (block-room s ws k more G)
 
-  pub feed-room : BlockRoom (not (not (g .left))) (g .width) (g .lines) (s .fed) (s .runs) k more ws
-  feed-room = rw (left-is, geo-width s ws g K, geo-lines s ws g K) (block-room s ws k more G)
+  pub feed-extracted : (ws₁ : List ℕ) (n : ℕ) → Extracts g (s .fed) (s .runs) k more ws ws₁ n → FeedExtracted s ws k more g ws₁ n
+  feed-extracted ws₁ n B = record { given = G; geometry = K; block = rw (← geo-left s ws g K, ← geo-width s ws g K, ← geo-lines s ws g K) B }
 
-  pub feed-extracted : (ws₁ : List ℕ) (n : ℕ) → Block (not (not (g .left))) (g .width) (g .lines) (s .fed) (s .runs) k more ws ws₁ n → FeedExtracted s ws k more ws₁ n
-  feed-extracted ws₁ n B = record { given = G; block = rw (← left-is, ← geo-width s ws g K, ← geo-lines s ws g K) B }
+-- so where the check of a feed passed
+module _ (s : Session) (ws : List ℕ) (k : ℕ) (more : List Bool) (r : Checked) (F : RecordFound s (feedCauseOf s ws k more) r) (passed : checkNumber (r .check) ≡ 0) where
+  no-cause : feedCauseOf s ws k more ≡ 0
+  no-cause = sym (F .number) ∙ passed
 
-module _ (s : Session) (ws : List ℕ) (k : ℕ) (more : List Bool) (ws₁ : List ℕ) (n : ℕ) (X : FeedExtracted s ws k more ws₁ n) (g : Geo) (K : GeoOf (s .rank) (s .shape) (s .structure) g) (long : 3 ^ s .rank ≤ length (s .structure)) where
-  pub feed-ready : BlockReady (g .n) (g .dims) (g .lines) (s .structure) ws₁ (s .fed) k
+  pub found-given : FeedAccepted s ws k more
+  found-given = cause-accepted s ws k more no-cause
+
+  pub found-room : RoomFor (r .geo) (s .fed) (s .runs) k more ws
+  found-room = feed-room s ws k more found-given (r .geo) (F .geometry no-cause)
+
+  pub found-extracted : (ws₁ : List ℕ) (n : ℕ) → Extracts (r .geo) (s .fed) (s .runs) k more ws ws₁ n → FeedExtracted s ws k more (r .geo) ws₁ n
+  found-extracted ws₁ n B = feed-extracted s ws k more found-given (r .geo) (F .geometry no-cause) ws₁ n B
+
+module _ (s : Session) (ws : List ℕ) (k : ℕ) (more : List Bool) (g : Geo) (ws₁ : List ℕ) (n : ℕ) (X : FeedExtracted s ws k more g ws₁ n) (long : 3 ^ s .rank ≤ length (s .structure)) where
+  abbrev K : GeoOf (s .rank) (s .shape) (s .structure) g
+  K = X .geometry
+
+  pub feed-ready : BlockReady (g .leads) (g .dims) (g .lines) (s .structure) ws₁ (s .fed) k
   feed-ready = rw (geo-lines s ws g K) (block-ready s ws k more (X .given) ws₁ n (X .block) g K long)
 
-  module _ (ws₂ : List ℕ) (t : ℕ) (U : BlockUnited (g .n) (g .dims) (g .lines) (s .structure) ws₁ ws₂ (s .fed) k t) where
-    united : BlockUnited (g .n) (g .dims) (linesOf s) (s .structure) ws₁ ws₂ (s .fed) k t
+  module _ (ws₂ : List ℕ) (t : ℕ) (U : BlockUnited (g .leads) (g .dims) (g .lines) (s .structure) ws₁ ws₂ (s .fed) k t) where
+    united : BlockUnited (g .leads) (g .dims) (linesOf s) (s .structure) ws₁ ws₂ (s .fed) k t
     united = rw (← geo-lines s ws g K) U
 
     W : FeedWords s ws k more ws₂

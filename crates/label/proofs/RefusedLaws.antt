@@ -1,40 +1,26 @@
 -- What a check says: a call with a cause hands back its number, and everything is as it was.
 -- Assumes nothing.
 use mathlib.Core.Path.{_≡_, refl, sym, ap, _∙_}
-use mathlib.Core.Bool.{Bool, true, false}
+use mathlib.Core.Bool.{Bool, true}
 use mathlib.Core.List.{List}
 use Prim.Native.Nat.{ℕ, suc, _-_, _<_}
 use native.Mathlib.Omega.{arith}
-use borrow.Author.Tests.{le-ltb, lt-ltb, ltb-true, ltb-false}
 use lib.Dec.{ltb}
 use lib.ListN.{length}
 use Rattle.frame.specs.Kinds.{Number, Value}
 use Rattle.frame.specs.Causes.{openCause}
 use Rattle.frame.specs.Plain.{Answer, refused, unless}
 use Rattle.frame.proofs.PlainLaws.{unless-some, unless-none, unless-same, kept-old}
-use Rattle.label.specs.declared.Cause.{Cause}
-use Rattle.label.specs.declared.Cause.the-variants as C
-use Rattle.label.specs.declared.Check.{Check}
-use Rattle.label.specs.declared.Check.the-variants as K
+use Rattle.causes.specs.declared.Cause.{Cause}
+use Rattle.causes.specs.declared.Check.{Check}
+use Rattle.causes.specs.declared.Check.the-variants as K
+use Rattle.causes.specs.Cases.{causeNumber, checkNumber}
+use Rattle.causes.proofs.CaseLaws.{positive, failed-some}
 use Rattle.label.specs.declared.Session.{Session}
-use Rattle.label.specs.Cases.{causeNumber, checkNumber}
 use Rattle.label.specs.Held.{numbersHeld, sizesHeld}
 use Rattle.label.specs.Opening.{openRecord, openWords, blank, OpenPromise}
 use Rattle.label.specs.Feeding.{feedRecord, feedCauseOf, FeedPromise}
 use Rattle.label.specs.Reading.{withNames, countedOf, readCauseOf, ReadPromise, sizesCauseOf, SizesPromise}
-
--- no cause has the number 0
-pub positive : (c : Cause) → 0 < causeNumber c
-positive C.Rank = omega arith
-positive C.StructureLength = omega arith
-positive C.ZeroDimension = omega arith
-positive C.TooLarge = omega arith
-positive C.Memory = omega arith
-positive C.Unsound = omega arith
-positive C.Lines = omega arith
-positive C.Cells = omega arith
-positive C.Length = omega arith
-positive C.Kind = omega arith
 
 -- what a check finds decides what is said: the cause, or what is done
 pub says-cause : (c : Cause) (k : Check) → k ≡ K.Failed c → (a : Answer) → refused (causeNumber c) ≡ unless (checkNumber k) a
@@ -49,20 +35,8 @@ says-done k is a = sym (unless-none (checkNumber k) a (ap checkNumber is))
 pub passes : (k : Check) → k ≡ K.Passed → checkNumber k ≡ 0
 passes k is = ap checkNumber is
 
-pub check-passes : (k : Check) → k ≡ K.Passed → false ≡ ltb 0 (checkNumber k)
-check-passes k is = sym (le-ltb 0 (checkNumber k) (omega (arith, ap checkNumber is)))
-
-pub check-fails : (c : Cause) (k : Check) → k ≡ K.Failed c → true ≡ ltb 0 (checkNumber k)
-check-fails c k is = sym (lt-ltb 0 (checkNumber k) (omega (arith, ap checkNumber is, positive c)))
-
-pub failed-some : (n : ℕ) (t : Bool) → t ≡ ltb 0 n → t ≡ true → 0 < n
-failed-some n t is e = ltb-true 0 n (sym is ∙ e)
-
 pub failed-never : (n : ℕ) (t : Bool) → t ≡ ltb 0 n → t ≡ true → n ≡ 0 → ⊥
 failed-never n t is e none = omega (arith, failed-some n t is e)
-
-pub passed-none : (n : ℕ) (t : Bool) → t ≡ ltb 0 n → t ≡ false → n ≡ 0
-passed-none n t is e = omega (arith, ltb-false 0 n (sym is ∙ e))
 
 -- ---- a call with a cause, whose number is n
 

@@ -16,7 +16,7 @@ use Rattle.frame.specs.Words.{lineStart, runStart, runEnd, parentOf, storedRun}
 use Rattle.frame.proofs.LineLaws.{Within}
 use Rattle.frame.proofs.FrameRunLaws.{start-zero, start-suc, start-le, run-at, Located, located, runs-few, run-within, run-order}
 use Rattle.forest.specs.Forest.{nonRoots}
-use Rattle.link.specs.Sweeps.{InOrder}
+use Rattle.sweep.specs.Sweeps.{InOrder}
 use Rattle.label.specs.declared.Session.{Session}
 use Rattle.label.specs.Record.{shapeOf, structureOf, linesOf}
 use Rattle.label.specs.Sound.{Sound}

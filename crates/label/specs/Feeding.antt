@@ -55,8 +55,10 @@ module _ (s : Session) (ws : List ℕ) (k : ℕ) (cells : List Bool) where
 
   unfoldable pub withRuns : List ℕ
   withRuns =
-      setAll (λ i. endPlace (linesOf s) (s .runs + i)) (λ i. runAfter s ws cells (s .runs + i) .end) (runs (shapeOf s) (structureOf s) cells)
-      (setAll (λ i. startPlace (linesOf s) (s .runs + i)) (λ i. runAfter s ws cells (s .runs + i) .start) (runs (shapeOf s) (structureOf s) cells)
+      setAll (λ i. endPlace (linesOf s) (s .runs + i)) (λ i. runAfter s ws cells (s .runs + i) .end)
+      (runs (shapeOf s) (structureOf s) cells)
+      (setAll (λ i. startPlace (linesOf s) (s .runs + i)) (λ i. runAfter s ws cells (s .runs + i) .start)
+      (runs (shapeOf s) (structureOf s) cells)
       withLines)
 
   -- 6, 7, 8, or 0

@@ -32,7 +32,9 @@ module _ (s : Session) (ws : List ℕ) where
 
   -- run r is one of cell p's line, and covers its column
   unfoldable pub holdsCell : ℕ → ℕ → Bool
-  holdsCell p r = (leb (lineStart ws (p / w)) r && ltb r (lineStart ws (suc (p / w)))) && (leb (runStart (linesOf s) ws r) (p % w) && ltb (p % w) (runEnd (linesOf s) ws r))
+  holdsCell p r =
+      (leb (lineStart ws (p / w)) r && ltb r (lineStart ws (suc (p / w))))
+      && (leb (runStart (linesOf s) ws r) (p % w) && ltb (p % w) (runEnd (linesOf s) ws r))
 
   -- the cells of the lines fed: those that a run holds are nonzero
   unfoldable pub cellsOf : List Bool

@@ -12,7 +12,8 @@ use Rattle.label.specs.declared.Session.{Session}
 
 -- the record and the words of an accepted opening: it writes 0 to word 0 only
 abbrev pub openRecord : List ℕ → List ℕ → Session
-openRecord shape structure = record { rank = length shape; shape = padded 4 shape; structure = padded 81 structure; fed = 0; runs = 0; joins = 0 }
+openRecord shape structure =
+    record { rank = length shape; shape = padded 4 shape; structure = padded 81 structure; fed = 0; runs = 0; joins = 0 }
 
 abbrev pub openWords : List ℕ → List ℕ
 openWords ws = set ws (linePlace 0) 0

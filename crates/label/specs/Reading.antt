@@ -29,7 +29,8 @@ unfoldable pub readCauseOf : Number → Session → List ℕ → ℕ → ℕ
 readCauseOf kind s ws out = readCause (sound s ws) out (size (shapeOf s)) (holds kind (rootCount s ws))
 
 -- the record, the words and the output at entry; the answer, and the three afterwards
-pub record ReadPromise (kind : Number) (s : Session) (ws : List ℕ) (out : List (Value kind)) (a : Answer) (s′ : Session) (ws′ : List ℕ) (out′ : List (Value kind)) : Type 0 where
+pub record ReadPromise (kind : Number) (s : Session) (ws : List ℕ) (out : List (Value kind))
+    (a : Answer) (s′ : Session) (ws′ : List ℕ) (out′ : List (Value kind)) : Type 0 where
   pub said : a ≡ unless (readCauseOf kind s ws (length out)) (countedOf s ws)
   pub session : s′ ≡ s
   pub words : ws′ ≡ kept (readCauseOf kind s ws (length out)) ws (withNames s ws)

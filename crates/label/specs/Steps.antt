@@ -1,19 +1,33 @@
 -- What the work of a call asks, once its check has found no cause, and what it leaves.
 -- Assumes nothing.
 use mathlib.Core.Path.{_≡_}
-use mathlib.Core.Bool.{Bool}
+use mathlib.Core.Bool.{Bool, cond}
 use mathlib.Core.List.{List}
 use Prim.Native.Nat.{ℕ, _-_, _*_, _≤_}
 use lib.ListN.{length}
 use Rattle.frame.specs.Shape.{size, width}
 use Rattle.frame.specs.Structure.{leftOn}
 use Rattle.frame.specs.Kinds.{Number, largest}
+use Rattle.geo.specs.declared.Geo.{Geo}
+use Rattle.geo.specs.Geometry.{GeoOf}
+use Rattle.causes.specs.declared.Checked.{Checked}
+use Rattle.causes.specs.Checks.{Found}
 use Rattle.block.specs.Blocks.{Block}
 use Rattle.label.specs.declared.Session.{Session}
 use Rattle.label.specs.Record.{shapeOf, structureOf, linesOf}
-use Rattle.label.specs.Sound.{Sound}
+use Rattle.label.specs.Sound.{Sound, sound}
 use Rattle.label.specs.Held.{rootCount}
 use Rattle.label.specs.Feeding.{feedRecord, FeedWords}
+
+-- ---- checks
+
+-- 6, or 0
+abbrev pub soundCauseOf : Session → List ℕ → ℕ
+soundCauseOf s ws = cond (sound s ws) 0 6
+
+-- what a check finds: that cause, and where there is none the record's geometry
+abbrev pub RecordFound : Session → ℕ → Checked → Type 0
+RecordFound s cause r = Found (s .rank) (s .shape) (s .structure) cause r
 
 -- ---- feed
 
@@ -25,8 +39,9 @@ module _ (s : Session) (ws : List ℕ) (k : ℕ) (cells : List Bool) where
     pub whole : length cells ≡ k * width (shapeOf s)
 
   -- the words once the new lines' runs are extracted, and how many runs there are then
-  pub record FeedExtracted (ws′ : List ℕ) (n : ℕ) : Type 0 where
+  pub record FeedExtracted (g : Geo) (ws′ : List ℕ) (n : ℕ) : Type 0 where
     pub given : FeedAccepted
+    pub geometry : GeoOf (s .rank) (s .shape) (s .structure) g
     pub block : Block (leftOn (shapeOf s) (structureOf s)) (width (shapeOf s)) (linesOf s) (s .fed) (s .runs) k cells ws ws′ n
 
   -- the record and the words after the feed
@@ -35,10 +50,10 @@ module _ (s : Session) (ws : List ℕ) (k : ℕ) (cells : List Bool) where
     pub words : FeedWords s ws k cells ws′
 
 -- the words are those of some feed whose lines are extracted
-pub record SomeExtracted (s : Session) (k : ℕ) (ws′ : List ℕ) (n : ℕ) : Type 0 where
+pub record SomeExtracted (s : Session) (g : Geo) (k : ℕ) (ws′ : List ℕ) (n : ℕ) : Type 0 where
   pub words : List ℕ
   pub cells : List Bool
-  pub extracted : FeedExtracted s words k cells ws′ n
+  pub extracted : FeedExtracted s words k cells g ws′ n
 
 -- ---- reading
 

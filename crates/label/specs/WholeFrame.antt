@@ -35,7 +35,8 @@ blocks L B = chop L (blockLines L B) L
 pub data Fills (w : ℕ) : Session → List ℕ → List ℕ → List Bool → Session → List ℕ → Type 0 where
   no-more : {s : Session} {ws : List ℕ} → Fills w s ws [] [] s ws
   block : {s s′ s″ : Session} {ws ws′ ws″ : List ℕ} {k : ℕ} {ks : List ℕ} {cells rest : List Bool} {a : Answer}
-      → length cells ≡ k * w → FeedPromise s ws k cells a s′ ws′ → Fills w s′ ws′ ks rest s″ ws″ → Fills w s ws (k ∷ ks) (cells ++ rest) s″ ws″
+      → length cells ≡ k * w → FeedPromise s ws k cells a s′ ws′ → Fills w s′ ws′ ks rest s″ ws″
+      → Fills w s ws (k ∷ ks) (cells ++ rest) s″ ws″
 
 -- ---- the promise
 

@@ -11,10 +11,9 @@
 // A slice is a pointer and a count in C. A call returns 0 where it is accepted, else document 01's number, or 100 where the record or the
 // answer is too short. 100 is looked for first, then a structure word that is no byte (6); only then is the call itself made.
 ghost use mathlib.Core.Path.{_≡_};
-ghost use mathlib.Core.List.{map};
 ghost use Rattle.frame.specs.Kinds.{nz, nzℤ, nzF, u8, u16, u32};
 ghost use Rattle.record_c.specs.Records.{recordWords};
-ghost use Rattle.label_c.specs.CCalls.{OpenCall, FeedCall, ReadCall, SizesCall, FrameCall};
+ghost use Rattle.label_c.specs.CCalls.{OpenLent, FeedLent, ReadLent, SizesLent, FrameLent};
 
 // ---- the calls with a record
 
@@ -32,7 +31,7 @@ pub extern "C" fn label_open(
     words: &mut [u32],
     rec: &mut [u64],
 ) -> u32
-    ensures { λ r. ⌜ OpenCall (now (shape .entry)) (now (structure .entry)) (now (words .entry)) (now (rec .entry)) r (now (words .exit)) (now (rec .exit)) ⌝ }
+    ensures { λ r. ⌜ OpenLent shape structure words rec r ⌝ }
 {
     if rec.len() < record_c::RECORD_WORDS {
         return record_c::SHORT;
@@ -49,7 +48,7 @@ pub extern "C" fn label_feed_u8(
     cells: &[u8],
     answer: &mut [u64],
 ) -> u32
-    ensures { λ r. ⌜ FeedCall (now (rec .entry)) (now (words .entry)) k (map nz (now (cells .entry))) (now (answer .entry)) r (now (rec .exit)) (now (words .exit)) (now (answer .exit)) ⌝ }
+    ensures { λ r. ⌜ FeedLent nz rec words k cells answer r ⌝ }
 {
     let early = record_c::record_early(rec, answer.len());
     if early != 0 {
@@ -67,7 +66,7 @@ pub extern "C" fn label_feed_u16(
     cells: &[u16],
     answer: &mut [u64],
 ) -> u32
-    ensures { λ r. ⌜ FeedCall (now (rec .entry)) (now (words .entry)) k (map nz (now (cells .entry))) (now (answer .entry)) r (now (rec .exit)) (now (words .exit)) (now (answer .exit)) ⌝ }
+    ensures { λ r. ⌜ FeedLent nz rec words k cells answer r ⌝ }
 {
     let early = record_c::record_early(rec, answer.len());
     if early != 0 {
@@ -85,7 +84,7 @@ pub extern "C" fn label_feed_i16(
     cells: &[i16],
     answer: &mut [u64],
 ) -> u32
-    ensures { λ r. ⌜ FeedCall (now (rec .entry)) (now (words .entry)) k (map nzℤ (now (cells .entry))) (now (answer .entry)) r (now (rec .exit)) (now (words .exit)) (now (answer .exit)) ⌝ }
+    ensures { λ r. ⌜ FeedLent nzℤ rec words k cells answer r ⌝ }
 {
     let early = record_c::record_early(rec, answer.len());
     if early != 0 {
@@ -103,7 +102,7 @@ pub extern "C" fn label_feed_f32(
     cells: &[f32],
     answer: &mut [u64],
 ) -> u32
-    ensures { λ r. ⌜ FeedCall (now (rec .entry)) (now (words .entry)) k (map nzF (now (cells .entry))) (now (answer .entry)) r (now (rec .exit)) (now (words .exit)) (now (answer .exit)) ⌝ }
+    ensures { λ r. ⌜ FeedLent nzF rec words k cells answer r ⌝ }
 {
     let early = record_c::record_early(rec, answer.len());
     if early != 0 {
@@ -120,7 +119,7 @@ pub extern "C" fn label_read_u8(
     out: &mut [u8],
     answer: &mut [u64],
 ) -> u32
-    ensures { λ r. ⌜ ReadCall u8 (now (rec .entry)) (now (words .entry)) (now (out .entry)) (now (answer .entry)) r (now (words .exit)) (now (out .exit)) (now (answer .exit)) ⌝ }
+    ensures { λ r. ⌜ ReadLent u8 rec words out answer r ⌝ }
 {
     let early = record_c::record_early(rec, answer.len());
     if early != 0 {
@@ -138,7 +137,7 @@ pub extern "C" fn label_read_u16(
     out: &mut [u16],
     answer: &mut [u64],
 ) -> u32
-    ensures { λ r. ⌜ ReadCall u16 (now (rec .entry)) (now (words .entry)) (now (out .entry)) (now (answer .entry)) r (now (words .exit)) (now (out .exit)) (now (answer .exit)) ⌝ }
+    ensures { λ r. ⌜ ReadLent u16 rec words out answer r ⌝ }
 {
     let early = record_c::record_early(rec, answer.len());
     if early != 0 {
@@ -156,7 +155,7 @@ pub extern "C" fn label_read_u32(
     out: &mut [u32],
     answer: &mut [u64],
 ) -> u32
-    ensures { λ r. ⌜ ReadCall u32 (now (rec .entry)) (now (words .entry)) (now (out .entry)) (now (answer .entry)) r (now (words .exit)) (now (out .exit)) (now (answer .exit)) ⌝ }
+    ensures { λ r. ⌜ ReadLent u32 rec words out answer r ⌝ }
 {
     let early = record_c::record_early(rec, answer.len());
     if early != 0 {
@@ -174,7 +173,7 @@ pub extern "C" fn label_sizes(
     sizes: &mut [u32],
     answer: &mut [u64],
 ) -> u32
-    ensures { λ r. ⌜ SizesCall (now (rec .entry)) (now (words .entry)) (now (sizes .entry)) (now (answer .entry)) r (now (words .exit)) (now (sizes .exit)) (now (answer .exit)) ⌝ }
+    ensures { λ r. ⌜ SizesLent rec words sizes answer r ⌝ }
 {
     let early = record_c::record_early(rec, answer.len());
     if early != 0 {
@@ -197,7 +196,7 @@ pub extern "C" fn label_frame_u8_u8(
     blocks: usize,
     answer: &mut [u64],
 ) -> u32
-    ensures { λ r. ⌜ FrameCall u8 (now (shape .entry)) (now (structure .entry)) (now (words .entry)) (map nz (now (cells .entry))) (now (out .entry)) (now (answer .entry)) r (now (words .exit)) (now (out .exit)) (now (answer .exit)) ⌝ }
+    ensures { λ r. ⌜ FrameLent u8 nz shape structure words cells out answer r ⌝ }
 {
     if answer.len() < record_c::ANSWER_WORDS {
         return record_c::SHORT;
@@ -216,7 +215,7 @@ pub extern "C" fn label_frame_u8_u16(
     blocks: usize,
     answer: &mut [u64],
 ) -> u32
-    ensures { λ r. ⌜ FrameCall u16 (now (shape .entry)) (now (structure .entry)) (now (words .entry)) (map nz (now (cells .entry))) (now (out .entry)) (now (answer .entry)) r (now (words .exit)) (now (out .exit)) (now (answer .exit)) ⌝ }
+    ensures { λ r. ⌜ FrameLent u16 nz shape structure words cells out answer r ⌝ }
 {
     if answer.len() < record_c::ANSWER_WORDS {
         return record_c::SHORT;
@@ -235,7 +234,7 @@ pub extern "C" fn label_frame_u8_u32(
     blocks: usize,
     answer: &mut [u64],
 ) -> u32
-    ensures { λ r. ⌜ FrameCall u32 (now (shape .entry)) (now (structure .entry)) (now (words .entry)) (map nz (now (cells .entry))) (now (out .entry)) (now (answer .entry)) r (now (words .exit)) (now (out .exit)) (now (answer .exit)) ⌝ }
+    ensures { λ r. ⌜ FrameLent u32 nz shape structure words cells out answer r ⌝ }
 {
     if answer.len() < record_c::ANSWER_WORDS {
         return record_c::SHORT;
@@ -254,7 +253,7 @@ pub extern "C" fn label_frame_u16_u8(
     blocks: usize,
     answer: &mut [u64],
 ) -> u32
-    ensures { λ r. ⌜ FrameCall u8 (now (shape .entry)) (now (structure .entry)) (now (words .entry)) (map nz (now (cells .entry))) (now (out .entry)) (now (answer .entry)) r (now (words .exit)) (now (out .exit)) (now (answer .exit)) ⌝ }
+    ensures { λ r. ⌜ FrameLent u8 nz shape structure words cells out answer r ⌝ }
 {
     if answer.len() < record_c::ANSWER_WORDS {
         return record_c::SHORT;
@@ -273,7 +272,7 @@ pub extern "C" fn label_frame_u16_u16(
     blocks: usize,
     answer: &mut [u64],
 ) -> u32
-    ensures { λ r. ⌜ FrameCall u16 (now (shape .entry)) (now (structure .entry)) (now (words .entry)) (map nz (now (cells .entry))) (now (out .entry)) (now (answer .entry)) r (now (words .exit)) (now (out .exit)) (now (answer .exit)) ⌝ }
+    ensures { λ r. ⌜ FrameLent u16 nz shape structure words cells out answer r ⌝ }
 {
     if answer.len() < record_c::ANSWER_WORDS {
         return record_c::SHORT;
@@ -292,7 +291,7 @@ pub extern "C" fn label_frame_u16_u32(
     blocks: usize,
     answer: &mut [u64],
 ) -> u32
-    ensures { λ r. ⌜ FrameCall u32 (now (shape .entry)) (now (structure .entry)) (now (words .entry)) (map nz (now (cells .entry))) (now (out .entry)) (now (answer .entry)) r (now (words .exit)) (now (out .exit)) (now (answer .exit)) ⌝ }
+    ensures { λ r. ⌜ FrameLent u32 nz shape structure words cells out answer r ⌝ }
 {
     if answer.len() < record_c::ANSWER_WORDS {
         return record_c::SHORT;
@@ -311,7 +310,7 @@ pub extern "C" fn label_frame_i16_u8(
     blocks: usize,
     answer: &mut [u64],
 ) -> u32
-    ensures { λ r. ⌜ FrameCall u8 (now (shape .entry)) (now (structure .entry)) (now (words .entry)) (map nzℤ (now (cells .entry))) (now (out .entry)) (now (answer .entry)) r (now (words .exit)) (now (out .exit)) (now (answer .exit)) ⌝ }
+    ensures { λ r. ⌜ FrameLent u8 nzℤ shape structure words cells out answer r ⌝ }
 {
     if answer.len() < record_c::ANSWER_WORDS {
         return record_c::SHORT;
@@ -330,7 +329,7 @@ pub extern "C" fn label_frame_i16_u16(
     blocks: usize,
     answer: &mut [u64],
 ) -> u32
-    ensures { λ r. ⌜ FrameCall u16 (now (shape .entry)) (now (structure .entry)) (now (words .entry)) (map nzℤ (now (cells .entry))) (now (out .entry)) (now (answer .entry)) r (now (words .exit)) (now (out .exit)) (now (answer .exit)) ⌝ }
+    ensures { λ r. ⌜ FrameLent u16 nzℤ shape structure words cells out answer r ⌝ }
 {
     if answer.len() < record_c::ANSWER_WORDS {
         return record_c::SHORT;
@@ -349,7 +348,7 @@ pub extern "C" fn label_frame_i16_u32(
     blocks: usize,
     answer: &mut [u64],
 ) -> u32
-    ensures { λ r. ⌜ FrameCall u32 (now (shape .entry)) (now (structure .entry)) (now (words .entry)) (map nzℤ (now (cells .entry))) (now (out .entry)) (now (answer .entry)) r (now (words .exit)) (now (out .exit)) (now (answer .exit)) ⌝ }
+    ensures { λ r. ⌜ FrameLent u32 nzℤ shape structure words cells out answer r ⌝ }
 {
     if answer.len() < record_c::ANSWER_WORDS {
         return record_c::SHORT;
@@ -368,7 +367,7 @@ pub extern "C" fn label_frame_f32_u8(
     blocks: usize,
     answer: &mut [u64],
 ) -> u32
-    ensures { λ r. ⌜ FrameCall u8 (now (shape .entry)) (now (structure .entry)) (now (words .entry)) (map nzF (now (cells .entry))) (now (out .entry)) (now (answer .entry)) r (now (words .exit)) (now (out .exit)) (now (answer .exit)) ⌝ }
+    ensures { λ r. ⌜ FrameLent u8 nzF shape structure words cells out answer r ⌝ }
 {
     if answer.len() < record_c::ANSWER_WORDS {
         return record_c::SHORT;
@@ -387,7 +386,7 @@ pub extern "C" fn label_frame_f32_u16(
     blocks: usize,
     answer: &mut [u64],
 ) -> u32
-    ensures { λ r. ⌜ FrameCall u16 (now (shape .entry)) (now (structure .entry)) (now (words .entry)) (map nzF (now (cells .entry))) (now (out .entry)) (now (answer .entry)) r (now (words .exit)) (now (out .exit)) (now (answer .exit)) ⌝ }
+    ensures { λ r. ⌜ FrameLent u16 nzF shape structure words cells out answer r ⌝ }
 {
     if answer.len() < record_c::ANSWER_WORDS {
         return record_c::SHORT;
@@ -406,7 +405,7 @@ pub extern "C" fn label_frame_f32_u32(
     blocks: usize,
     answer: &mut [u64],
 ) -> u32
-    ensures { λ r. ⌜ FrameCall u32 (now (shape .entry)) (now (structure .entry)) (now (words .entry)) (map nzF (now (cells .entry))) (now (out .entry)) (now (answer .entry)) r (now (words .exit)) (now (out .exit)) (now (answer .exit)) ⌝ }
+    ensures { λ r. ⌜ FrameLent u32 nzF shape structure words cells out answer r ⌝ }
 {
     if answer.len() < record_c::ANSWER_WORDS {
         return record_c::SHORT;

@@ -13,18 +13,12 @@ use mir.Val.{SFits, toZ}
 use Rattle.frame.specs.Shape.{size, width, leading, coords}
 use Rattle.frame.specs.Touches.{hasNbr, nbrLine}
 use Rattle.frame.proofs.ShapeLaws.{factor-pos, size-lines, coords-line}
+use Rattle.geo.proofs.DimsLaws.{three-entries, size-ones}
 use Rattle.link.specs.declared.NbrLine.the-variants.{At, Nothing}
-use Rattle.link.specs.Offsets.{digit, movesIn}
+use Rattle.sweep.specs.Sweeps.{digit}
+use Rattle.link.specs.Offsets.{movesIn}
 use Rattle.link.specs.Lines.{signedCoords, nbrOf}
-use Rattle.link.proofs.SignedLaws.{small}
-
--- a list of three is known by its places
-pub three-entries : {A : Type 0} (z : A) (l : List A) → length l ≡ 3 → l ≡ getD l 0 z ∷ getD l 1 z ∷ getD l 2 z ∷ []
-three-entries z [] h = absurd (omega arith)
-three-entries z (a ∷ []) h = absurd (omega arith)
-three-entries z (a ∷ (b ∷ [])) h = absurd (omega arith)
-three-entries z (a ∷ (b ∷ (c ∷ []))) h = refl
-three-entries z (a ∷ (b ∷ (c ∷ (d ∷ l)))) h = absurd (omega arith)
+use Rattle.sweep.proofs.SignedLaws.{small}
 
 -- ---- coordinates
 
@@ -227,11 +221,6 @@ has-one ds ts ℓ h = rw (div-eq-of-lt h, mod-eq-of-lt h)
 pub line-one : (ds ts : List ℕ) (ℓ : ℕ) → ℓ < size ds → nbrLine (1 ∷ ds) (1 ∷ ts) ℓ ≡ nbrLine ds ts ℓ
 unfolding nbrLine
 line-one ds ts ℓ h = rw (div-eq-of-lt h, mod-eq-of-lt h) (omega arith)
-
-pub size-ones : (j : ℕ) (ds : List ℕ) → size (replicate j 1 ++ ds) ≡ size ds
-unfolding size
-size-ones zero ds = refl
-size-ones (suc j) ds = let e = size-ones j ds in omega arith
 
 pub has-ones : (j : ℕ) (ds ts : List ℕ) (ℓ : ℕ) → ℓ < size ds → hasNbr (replicate j 1 ++ ds) (replicate j 1 ++ ts) ℓ ≡ hasNbr ds ts ℓ
 has-ones zero ds ts ℓ h = refl

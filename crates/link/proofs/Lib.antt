@@ -1,9 +1,3 @@
-pub mod SignedLaws
-pub mod ReachedLaws
-pub mod SweepLaws
-pub mod TurnLaws
-pub mod ShiftLaws
-pub mod SideLaws
 pub mod MoveLaws
 pub mod OffsetLaws
 pub mod CoordinateLaws

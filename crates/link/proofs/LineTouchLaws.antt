@@ -19,24 +19,32 @@ use Rattle.frame.specs.Words.{lineStart, storedRun}
 use Rattle.frame.specs.Touches.{used, hasNbr, nbrLine, reaches, touchesBy, touchesOf}
 use Rattle.frame.proofs.StructureLaws.{backward-below}
 use Rattle.frame.proofs.TouchLaws.{nbr-earlier, by-same}
-use Rattle.link.specs.Lines.{leadingOf, LineReady, UnitedIn, touchesIn, runsTo}
-use Rattle.link.proofs.TurnLaws.{united-few}
+use Rattle.geo.specs.declared.Geo.{Geo}
+use Rattle.geo.specs.Geometry.{leadingOf}
+use Rattle.link.specs.Lines.{LineReady, UnitedIn, touchesByIn, touchesIn, runsTo}
+use Rattle.sweep.proofs.TurnLaws.{united-few}
 use Rattle.link.proofs.PartLaws.{part-ready, starts-rise, in-start, in-runs, in-then}
 use Rattle.link.proofs.TouchByLaws.{leading-length, leading-size}
 
-module _ (n : ℕ) (dims : List ℕ) (L : ℕ) (structure ws : List ℕ) (ℓ : ℕ) (R : LineReady n dims L structure ws ℓ) (three : length dims ≡ 3) where
+module _ (g : Geo) (structure ws : List ℕ) (ℓ : ℕ) (R : LineReady g structure ws ℓ) (three : length (g .dims) ≡ 3) where
+  abbrev n : ℕ
+  n = g .leads
+
+  abbrev L : ℕ
+  L = g .lines
+
   abbrev ds : List ℕ
-  ds = leadingOf n dims
+  ds = leadingOf (g .leads) (g .dims)
 
   abbrev N : ℕ
   N = runsTo ws ℓ
 
   -- the touches by code k, and by the codes before k
   abbrev by : ℕ → List Edge
-  by k = touchesBy (leadingOf n dims) structure (lineStart ws) (storedRun L ws) ℓ k
+  by k = touchesByIn g structure ws ℓ k
 
   below : ℓ < size ds
-  below = rw (leading-size n dims L (R .leading) three) (R .lines .within)
+  below = rw (leading-size n (g .dims) L (R .leading) three) (R .lines .within)
 
   -- the pairs of line ℓ and line m, by that code
   abbrev with-line : (ℕ → ℕ) → (ℕ → Run) → ℕ → ℕ → List Edge
@@ -45,7 +53,7 @@ module _ (n : ℕ) (dims : List ℕ) (L : ℕ) (structure ws : List ℕ) (ℓ : 
   -- the touches by one code are these, or none
   by-cases : (P : List Edge → Type 0) (S : ℕ → ℕ) (Q : ℕ → Run) (k : ℕ) → P []
       → ((m : ℕ) → m < ℓ → P (with-line S Q k m))
-      → P (touchesBy (leadingOf n dims) structure S Q ℓ k)
+      → P (touchesBy (leadingOf (g .leads) (g .dims)) structure S Q ℓ k)
   unfolding touchesBy
   by-cases P S Q k none some = go (used structure (length ds) k) refl (hasNbr ds (offset (length ds) k) ℓ) refl
     where
@@ -71,20 +79,20 @@ module _ (n : ℕ) (dims : List ℕ) (L : ℕ) (structure ws : List ℕ) (ℓ : 
 
   -- ---- none, where the line has no run
 
-  pub no-touches : lineStart ws ℓ ≡ lineStart ws (suc ℓ) → touchesIn n dims L structure ws ℓ ≡ []
+  pub no-touches : lineStart ws ℓ ≡ lineStart ws (suc ℓ) → touchesIn g structure ws ℓ ≡ []
   unfolding touchesOf
   no-touches e = gather-none by 0 (3 ^ length ds) (λ k l u. by-cases (λ es. es ≡ []) (lineStart ws) (storedRun L ws) k refl (λ m h. let z : lineStart ws (suc ℓ) - lineStart ws ℓ ≡ 0 = omega arith in rw z (unfold pairs gather in refl)))
 
   -- ---- by one code more
 
-  module _ (now : List ℕ) (k t : ℕ) (E : UnitedIn L ws now (runsTo ws ℓ) (gather (touchesBy (leadingOf n dims) structure (lineStart ws) (storedRun L ws) ℓ) 0 k) t) where
-    same-by : touchesBy (leadingOf n dims) structure (lineStart now) (storedRun L now) ℓ k ≡ by k
+  module _ (now : List ℕ) (k t : ℕ) (E : UnitedIn L ws now (runsTo ws ℓ) (gather (touchesByIn g structure ws ℓ) 0 k) t) where
+    same-by : touchesByIn g structure now ℓ k ≡ by k
     same-by =
         by-same ds structure (lineStart now) (lineStart ws) (storedRun L now) (storedRun L ws) ℓ k below
         (λ m h. in-start L ws now N (gather by 0 k) t E m (let w = R .lines .within in omega arith))
         (λ m r h lo hi. ap (λ (run : ℕ → Run). run r) (in-runs L ws now N (gather by 0 k) t E))
 
-    pub touches-more : (vs : List ℕ) (u : ℕ) → UnitedIn L now vs (runsTo now ℓ) (touchesBy (leadingOf n dims) structure (lineStart now) (storedRun L now) ℓ k) u → UnitedIn L ws vs (runsTo ws ℓ) (gather (touchesBy (leadingOf n dims) structure (lineStart ws) (storedRun L ws) ℓ) 0 (k + 1)) (t + u)
+    pub touches-more : (vs : List ℕ) (u : ℕ) → UnitedIn L now vs (runsTo now ℓ) (touchesByIn g structure now ℓ k) u → UnitedIn L ws vs (runsTo ws ℓ) (gather (touchesByIn g structure ws ℓ) 0 (k + 1)) (t + u)
     touches-more vs u F =
         subst (λ (es : List Edge). UnitedIn L ws vs N es (t + u)) (sym more)
         (in-then L ws ℓ (R .lines) now (gather by 0 k) t E (upto-ends k) vs (by k) u (subst (λ (es : List Edge). UnitedIn L now vs (runsTo now ℓ) es u) same-by F))
@@ -101,19 +109,19 @@ module _ (n : ℕ) (dims : List ℕ) (L : ℕ) (structure ws : List ℕ) (ℓ : 
   unused : (k : ℕ) → 3 ^ n / 2 ≤ k → k < 3 ^ n → used structure (length ds) k ≡ false
   unfolding used
   unused k l u =
-      let e : backward (offset (length ds) k) ≡ false = ap (λ (x : ℕ). backward (offset x k)) (leading-length n dims L (R .leading) three) ∙ backward-below n k u ∙ le-ltb k (3 ^ n / 2) l in
+      let e : backward (offset (length ds) k) ≡ false = ap (λ (x : ℕ). backward (offset x k)) (leading-length n (g .dims) L (R .leading) three) ∙ backward-below n k u ∙ le-ltb k (3 ^ n / 2) l in
       rw e
 
   forward : (k : ℕ) → 3 ^ n / 2 ≤ k → k < 3 ^ n → by k ≡ []
   unfolding touchesBy
   forward k l u = rw (unused k l u)
 
-  pub touches-all : gather (touchesBy (leadingOf n dims) structure (lineStart ws) (storedRun L ws) ℓ) 0 (3 ^ n / 2) ≡ touchesIn n dims L structure ws ℓ
+  pub touches-all : gather (touchesByIn g structure ws ℓ) 0 (3 ^ n / 2) ≡ touchesIn g structure ws ℓ
   unfolding touchesOf
   touches-all =
       let e : 3 ^ n ≡ 3 ^ n / 2 + (3 ^ n - 3 ^ n / 2) = omega arith in
       sym
-      (ap (λ (x : ℕ). gather by 0 (3 ^ x)) (leading-length n dims L (R .leading) three)
+      (ap (λ (x : ℕ). gather by 0 (3 ^ x)) (leading-length n (g .dims) L (R .leading) three)
       ∙ ap (gather by 0) e
       ∙ gather-split by 0 (3 ^ n / 2) (3 ^ n - 3 ^ n / 2)
       ∙ ap (λ (l : List Edge). gather by 0 (3 ^ n / 2) ++ l) (gather-none by (0 + 3 ^ n / 2) (3 ^ n - 3 ^ n / 2) (λ k l u. forward k (omega arith) (omega arith)))

@@ -1,7 +1,7 @@
 -- A coordinate moved by an offset, as i64 has it and as natural numbers do.
 -- Assumes nothing.
 use mathlib.Core.Path.{_≡_, sym, ap, ap₂, _∙_, subst}
-use mathlib.Core.Bool.{Bool, true, false, _&&_}
+use mathlib.Core.Bool.{Bool, true, false, _&&_, false≢true}
 use mathlib.Core.List.{[], _∷_}
 use Prim.Native.Nat.{ℕ, zero, suc, _+_, _-_, _≤_, _<_}
 use native.Mathlib.Omega.{arith}
@@ -13,8 +13,9 @@ use mir.Syntax.{w64}
 use mir.Val.{SFits, Fits, ofZ, toZ}
 use mir.Facts.{toZ-ofZ}
 use Rattle.groups.proofs.BoolLaws.{and-left}
-use Rattle.link.specs.Offsets.{digit, Move, movesIn, movedTo}
-use Rattle.link.proofs.SignedLaws.{sub-cases, small, near-fits, lt-left, off-back, nat-move, ge-zero}
+use Rattle.sweep.specs.Sweeps.{digit}
+use Rattle.link.specs.Offsets.{Move, movesIn, movedTo}
+use Rattle.sweep.proofs.SignedLaws.{sub-cases, small, near-fits, lt-left, off-back}
 
 -- a signed number in a local: its bits, read back
 abbrev pub held : ℤ → ℤ
@@ -25,6 +26,16 @@ coord-fits c e h = subst (SFits w64) (sym e) (record { sfits = omega arith })
 
 pub coord-back : (c : ℤ) → c ≡ pos (natAbs c) → natAbs c < 4294967296 → held c ≡ c
 coord-back c e h = toZ-ofZ (coord-fits c e h)
+
+-- ---- back to an index: `v as usize` asks `T (nonNeg z) × Fits w64 (natAbs z)`, and gives `natAbs z`
+ge-zero : (z : ℤ) → ltZ z (pos 0) ≡ false → T (nonNeg z)
+ge-zero (pos n) e = tt
+ge-zero (negsuc n) e = absurd (false≢true (sym e))
+
+nat-move : (n : ℕ) (o : ℤ) → digit o ≤ 2 → ltZ (pos n +ℤ o) (pos 0) ≡ false → natAbs (pos n +ℤ o) ≡ n + digit o - 1
+nat-move n (pos b) k e = omega arith
+nat-move n (negsuc zero) k e = sub-cases (λ z. ltZ z (pos 0) ≡ false → natAbs z ≡ n + 0 - 1) n 1 (λ q r. absurd (false≢true (sym r))) (λ q r. omega arith) e
+nat-move n (negsuc (suc b)) k e = absurd (omega arith)
 
 -- ---- a coordinate c and an offset o
 

@@ -6,10 +6,13 @@ use Prim.Native.Nat.{ℕ, _/_, _%_, _^_, _-_, _+_, _≤_, _<_}
 use lib.IntN.{ℤ, pos}
 use lib.ListN.{length, getD}
 use Rattle.frame.specs.Shape.{size}
-use Rattle.link.specs.Offsets.{digit, Move}
-use Rattle.link.specs.Lines.{ThreeDims, threeDigits, signedCoords, Moves}
+use Rattle.sweep.specs.Sweeps.{digit}
+use Rattle.link.specs.Offsets.{Move}
+use Rattle.geo.specs.Geometry.{ThreeDims}
+use Rattle.link.specs.Lines.{threeDigits, signedCoords, Moves}
 use Rattle.link.proofs.OffsetLaws.{digits-low, three-digits}
-use Rattle.link.proofs.CoordinateLaws.{three-entries, coords-are, first-below, middle-below, last-below, first-small, middle-small, last-small}
+use Rattle.geo.proofs.DimsLaws.{three-entries}
+use Rattle.link.proofs.CoordinateLaws.{coords-are, first-below, middle-below, last-below, first-small, middle-small, last-small}
 
 module _ (n : ℕ) (dims : List ℕ) (L ℓ k : ℕ) (D : ThreeDims n dims L) (three : length dims ≡ 3) (within : ℓ < L) (code : k < 3 ^ n) (c o : List ℤ) (is-c : c ≡ signedCoords dims ℓ) (three-o : length o ≡ 3) (is-o : map digit o ≡ threeDigits n k) where
   abbrev d : ℕ → ℕ

@@ -14,10 +14,12 @@ use mir.Val.{Fits}
 use Rattle.groups.proofs.BoolLaws.{and-left, and-right}
 use Rattle.frame.specs.Shape.{size}
 use Rattle.link.specs.declared.NbrLine.the-variants.{At, Nothing}
-use Rattle.link.specs.Offsets.{digit, movesIn, movedTo}
+use Rattle.sweep.specs.Sweeps.{digit}
+use Rattle.link.specs.Offsets.{movesIn, movedTo}
 use Rattle.link.specs.Lines.{signedCoords, Moves, nbrOf}
 use Rattle.link.proofs.MoveLaws.{held, moved-back}
-use Rattle.link.proofs.CoordinateLaws.{three-entries, line-below, row-below, nbr-yes, nbr-no}
+use Rattle.geo.proofs.DimsLaws.{three-entries}
+use Rattle.link.proofs.CoordinateLaws.{line-below, row-below, nbr-yes, nbr-no}
 
 -- one coordinate: v is where it moves to, and below d exactly where it stays in the dimension
 module _ (x t d v : ℕ) (is-v : v ≡ movedTo x t d) where

@@ -1,11 +1,16 @@
 -- The offsets of up to three leading dimensions, by their codes.
 -- Assumes nothing.
-use mathlib.Core.Path.{_≡_, sym, ap, ap₂}
+use mathlib.Core.Path.{_≡_, refl, sym, ap, ap₂, _∙_}
 use mathlib.Core.List.{List, [], _∷_}
 use Prim.Native.Nat.{ℕ, zero, suc, _+_, _-_, _/_, _%_, _^_, _≤_, _<_}
 use native.Mathlib.Omega.{arith}
+use lib.IntN.{pos, negsuc, _-ℤ_}
+use mir.Syntax.{w64}
+use mir.Val.{SFits, ofZ, toZ}
 use Rattle.frame.specs.Shape.{size, coords}
 use Rattle.frame.specs.Structure.{offset}
+use Rattle.sweep.specs.Sweeps.{digit}
+use Rattle.sweep.proofs.SignedLaws.{sub-cases, sum-fits, shifted}
 use Rattle.link.specs.Lines.{threeDigits}
 
 -- the code among the 27 of three dimensions
@@ -54,3 +59,14 @@ module _ (n k half : ℕ) (few : n ≤ 3) (low : k < 3 ^ n) (is-half : half ≡ 
 
   pub three-digits : (13 - half + k) / 9 ∷ (13 - half + k) / 3 % 3 ∷ (13 - half + k) % 3 ∷ [] ≡ threeDigits n k
   three-digits = rw is-half (code-digits n k few low)
+
+-- the part of an offset that has the digit t
+pub part-fits : (t : ℕ) → t ≤ 2 → SFits w64 (toZ w64 t -ℤ pos 1)
+part-fits t h = sum-fits t (negsuc 0) (omega arith) (omega arith)
+
+pub part-digit : (t : ℕ) → t ≤ 2 → digit (toZ w64 (ofZ w64 (toZ w64 t -ℤ pos 1))) ≡ t
+part-digit t h = ap digit (shifted t (negsuc 0) (omega arith) (omega arith)) ∙ sub-cases (λ z. digit z ≡ t) t 1 (λ q. go t q) (λ q. omega arith)
+  where
+    go : (t : ℕ) → t < 1 → digit (negsuc (1 - suc t)) ≡ t
+    go zero q = refl
+    go (suc t) q = absurd (omega arith)

@@ -19,7 +19,9 @@ use Rattle.frame.specs.Words.{startAt, endAt, parentAt, lineStart, parentOf, st
 use Rattle.forest.specs.Forest.{rootOf, grouping}
 use Rattle.forest.specs.Unions.{parentIn, Parents, ParentsOnly, United}
 use Rattle.forest.proofs.UnitedLaws.{united-none, united-then}
-use Rattle.link.specs.Sweeps.{runIn, InOrder, TwoLines, linkPairs}
+use Rattle.sweep.specs.declared.LinePair.{LinePair}
+use Rattle.sweep.specs.declared.Nbr.{Nbr}
+use Rattle.sweep.specs.Sweeps.{runIn, InOrder, TwoLines, linkPairs}
 use Rattle.link.specs.Lines.{LinesReady, UnitedIn, pairsOf, runsTo}
 
 -- ---- the part
@@ -52,7 +54,7 @@ module _ (L : ℕ) (ws : List ℕ) where
         go false t below = let l = ltb-false k m t in let i = below l (omega arith) in let u = R .sorted k (omega arith) .upto in omega arith
 
     -- two of them, to be linked
-    pub part-lines : (m : ℕ) → m < ℓ → TwoLines (drop (L + 1) ws) (lineStart ws ℓ) (lineStart ws (suc ℓ)) (lineStart ws m) (lineStart ws (suc m))
+    pub part-lines : (m : ℕ) → m < ℓ → TwoLines (drop (L + 1) ws) (record { ca = lineStart ws ℓ; cb = lineStart ws (suc ℓ); na = lineStart ws m; nb = lineStart ws (suc m) })
     part-lines m h = record {
       parents = part-ready;
       current = subst (λ (f : ℕ → Run). InOrder f (lineStart ws ℓ) (lineStart ws (suc ℓ))) (sym part-runs) (R .sorted ℓ (le-refl ℓ));
@@ -60,7 +62,7 @@ module _ (L : ℕ) (ws : List ℕ) where
       before = starts-rise (suc m) (suc ℓ) (omega arith) (omega arith);
     }
 
--- ---- the part lent to `link`, and handed back
+-- ---- the part lent to `sweep::link`, and handed back
 
 -- `&mut words[a..]`, and the words once it is back
 pub tail-mid : (a : ℕ) (ws : List ℕ) → midOf a (length ws - a) ws ≡ drop a ws
@@ -75,13 +77,17 @@ module _ (L : ℕ) (ws : List ℕ) (ℓ m : ℕ) (R : LinesReady L ws ℓ) (h : 
   abbrev lent : List ℕ
   lent = midOf (L + 1) (length ws - (L + 1)) ws
 
-  pub lent-lines : TwoLines (midOf (L + 1) (length ws - (L + 1)) ws) (getD ws ℓ 0) (getD ws (ℓ + 1) 0) (getD ws m 0) (getD ws (m + 1) 0)
+  -- the runs' numbers as they are read
+  abbrev pub at : LinePair
+  at = record { ca = getD ws ℓ 0; cb = getD ws (ℓ + 1) 0; na = getD ws m 0; nb = getD ws (m + 1) 0 }
+
+  pub lent-lines : TwoLines (midOf (L + 1) (length ws - (L + 1)) ws) at
   lent-lines = rw (tail-mid (L + 1) ws, add-one ℓ, add-one m) (part-lines L ws ℓ R m h)
 
-  pub lent-back : (prev adj next : Bool) (p : List ℕ) (t : ℕ) → United (midOf (L + 1) (length ws - (L + 1)) ws) p (getD ws (ℓ + 1) 0) (linkPairs prev adj next (runIn (midOf (L + 1) (length ws - (L + 1)) ws)) (getD ws ℓ 0) (getD ws (ℓ + 1) 0) (getD ws m 0) (getD ws (m + 1) 0)) t
-      → UnitedIn L ws (putMid (L + 1) (length ws - (L + 1)) ws p) (runsTo ws ℓ) (pairsOf L ws ℓ m prev adj next) t
-  lent-back prev adj next p t U =
-      subst (λ (vs : List ℕ). UnitedIn L ws vs (runsTo ws ℓ) (pairsOf L ws ℓ m prev adj next) t) (sym (tail-put (L + 1) ws p (omega (arith, R .room))))
+  pub lent-back : (by : Nbr) (p : List ℕ) (t : ℕ) → United (midOf (L + 1) (length ws - (L + 1)) ws) p (getD ws (ℓ + 1) 0) (linkPairs by (runIn (midOf (L + 1) (length ws - (L + 1)) ws)) at) t
+      → UnitedIn L ws (putMid (L + 1) (length ws - (L + 1)) ws p) (runsTo ws ℓ) (pairsOf L ws ℓ m by) t
+  lent-back by p t U =
+      subst (λ (vs : List ℕ). UnitedIn L ws vs (runsTo ws ℓ) (pairsOf L ws ℓ m by) t) (sym (tail-put (L + 1) ws p (omega (arith, R .room))))
       (record {
         starts = take-at (take (L + 1) ws) p (L + 1) front;
         runs = rw (drop-at (take (L + 1) ws) p (L + 1) front) there;
@@ -90,11 +96,14 @@ module _ (L : ℕ) (ws : List ℕ) (ℓ m : ℕ) (R : LinesReady L ws ℓ) (h : 
       front : length (take (L + 1) ws) ≡ L + 1
       front = length-take-le (L + 1) ws (omega (arith, R .room))
 
-      plain : United (drop (L + 1) ws) p (lineStart ws (suc ℓ)) (linkPairs prev adj next (runIn (drop (L + 1) ws)) (lineStart ws ℓ) (lineStart ws (suc ℓ)) (lineStart ws m) (lineStart ws (suc m))) t
+      lines : LinePair
+      lines = record { ca = lineStart ws ℓ; cb = lineStart ws (suc ℓ); na = lineStart ws m; nb = lineStart ws (suc m) }
+
+      plain : United (drop (L + 1) ws) p (lineStart ws (suc ℓ)) (linkPairs by (runIn (drop (L + 1) ws)) lines) t
       plain = rw (← tail-mid (L + 1) ws, ← add-one ℓ, ← add-one m) U
 
-      there : United (drop (L + 1) ws) p (runsTo ws ℓ) (pairsOf L ws ℓ m prev adj next) t
-      there = subst (λ (f : ℕ → Run). United (drop (L + 1) ws) p (runsTo ws ℓ) (linkPairs prev adj next f (lineStart ws ℓ) (lineStart ws (suc ℓ)) (lineStart ws m) (lineStart ws (suc m))) t) (part-runs L ws) plain
+      there : United (drop (L + 1) ws) p (runsTo ws ℓ) (pairsOf L ws ℓ m by) t
+      there = subst (λ (f : ℕ → Run). United (drop (L + 1) ws) p (runsTo ws ℓ) (linkPairs by f lines) t) (part-runs L ws) plain
 
 -- ---- unions in the part, and what they leave
 

@@ -15,8 +15,10 @@ use Rattle.frame.proofs.StructureLaws.{backward-below}
 use Rattle.frame.proofs.TouchLaws.{nbr-earlier}
 use Rattle.link.specs.declared.NbrLine.{NbrLine}
 use Rattle.link.specs.declared.NbrLine.the-variants.{At, Nothing}
-use Rattle.link.specs.Lines.{ThreeDims, leadingOf, threeDigits, nbrOf, pairsOf}
-use Rattle.link.proofs.CoordinateLaws.{size-ones, has-ones, line-ones}
+use Rattle.geo.specs.Geometry.{ThreeDims, leadingOf}
+use Rattle.link.specs.Lines.{threeDigits, nbrOf, pairsOf}
+use Rattle.geo.proofs.DimsLaws.{size-ones}
+use Rattle.link.proofs.CoordinateLaws.{has-ones, line-ones}
 
 -- ---- the answer of nbr_line
 
@@ -115,6 +117,6 @@ module _ (n : ℕ) (dims : List ℕ) (L : ℕ) (D : ThreeDims n dims L) (three :
       pub by-earlier : m < ℓ
       by-earlier = subst (λ (x : ℕ). x < ℓ) (sym line) (nbr-earlier ds structure ℓ k below (used-is ∙ e) has)
 
-      pub by-pairs : touchesBy (leadingOf n dims) structure (lineStart ws) (storedRun L ws) ℓ k ≡ pairsOf L ws ℓ m prev adj next
+      pub by-pairs : touchesBy (leadingOf n dims) structure (lineStart ws) (storedRun L ws) ℓ k ≡ pairsOf L ws ℓ m (record { prev = prev; adj = adj; next = next })
       unfolding touchesBy
       by-pairs = rw (used-is ∙ e, has, ← line)

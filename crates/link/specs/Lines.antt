@@ -1,7 +1,7 @@
 -- A line's neighbours by coordinates, and what the union of a line with them asks and does.
 -- Assumes nothing.
 use mathlib.Core.Path.{_≡_}
-use mathlib.Core.Bool.{Bool, cond}
+use mathlib.Core.Bool.{cond}
 use mathlib.Core.List.{List, _++_, map}
 use Prim.Native.Nat.{ℕ, suc, _+_, _-_, _*_, _^_, _≤_, _<_}
 use lib.IntN.{ℤ, pos}
@@ -11,28 +11,21 @@ use Rattle.frame.specs.Shape.{size, coords}
 use Rattle.frame.specs.Structure.{offset}
 use Rattle.frame.specs.Memory.{stride}
 use Rattle.frame.specs.Words.{lineStart, parentOf, storedRun}
-use Rattle.frame.specs.Touches.{hasNbr, nbrLine, touchesOf}
+use Rattle.frame.specs.Touches.{hasNbr, nbrLine, touchesBy, touchesOf}
+use Rattle.geo.specs.declared.Geo.{Geo}
+use Rattle.geo.specs.Geometry.{leadingOf, ThreeDims}
 use Rattle.forest.specs.Unions.{United}
+use Rattle.sweep.specs.declared.Nbr.{Nbr}
 use Rattle.link.specs.declared.NbrLine.{NbrLine}
 use Rattle.link.specs.declared.NbrLine.the-variants.{At, Nothing}
 use Rattle.link.specs.Offsets.{Move}
-use Rattle.link.specs.Sweeps.{InOrder, linkPairs}
+use Rattle.sweep.specs.Sweeps.{InOrder, linkPairs}
 
--- ---- three dimensions: the leading ones are the last n of them, and those before are 1
-
-abbrev pub leadingOf : ℕ → List ℕ → List ℕ
-leadingOf n dims = drop (3 - n) dims
-
--- n leading dimensions and their product, the count of lines, which a word holds
-pub record ThreeDims (n : ℕ) (dims : List ℕ) (L : ℕ) : Type 0 where
-  pub few : n ≤ 3
-  pub ones : take (3 - n) dims ≡ replicate (3 - n) 1
-  pub product : L ≡ size dims
-  pub small : L < 4294967296
+-- ---- offsets and coordinates in three dimensions
 
 -- an offset of n leading dimensions as the digits of three: 1, for 0, in those before
 unfoldable pub threeDigits : ℕ → ℕ → List ℕ
-threeDigits n k = replicate (3 - n) 1 ++ offset n k
+threeDigits n code = replicate (3 - n) 1 ++ offset n code
 
 -- a line's leading coordinates as signed numbers
 abbrev pub signedCoords : List ℕ → ℕ → List ℤ
@@ -62,11 +55,11 @@ pub record LinesReady (L : ℕ) (ws : List ℕ) (ℓ : ℕ) : Type 0 where
   pub sorted : (m : ℕ) → m ≤ ℓ → InOrder (storedRun L ws) (lineStart ws m) (lineStart ws (suc m))
   pub parents : (r : ℕ) → r < runsTo ws ℓ → parentOf L ws r ≤ r
 
--- what the union of line ℓ asks besides: the leading dimensions, and a structure of rank n + 1
-pub record LineReady (n : ℕ) (dims : List ℕ) (L : ℕ) (structure ws : List ℕ) (ℓ : ℕ) : Type 0 where
-  pub leading : ThreeDims n dims L
-  pub bytes : 3 ^ suc n ≤ length structure
-  pub lines : LinesReady L ws ℓ
+-- what the union of line ℓ asks besides: the leading dimensions, and a structure of one dimension more
+pub record LineReady (g : Geo) (structure ws : List ℕ) (ℓ : ℕ) : Type 0 where
+  pub leading : ThreeDims (g .leads) (g .dims) (g .lines)
+  pub bytes : 3 ^ suc (g .leads) ≤ length structure
+  pub lines : LinesReady (g .lines) ws ℓ
 
 -- from ws to ws′ the edges of es were added, one after the other, to the grouping that the first n parents hold, and t of those
 -- unions were joins. The line starts stand, and of the runs' words only parents changed
@@ -75,9 +68,20 @@ pub record UnitedIn (L : ℕ) (ws ws′ : List ℕ) (n : ℕ) (es : List Edge) (
   pub runs : United (drop (L + 1) ws) (drop (L + 1) ws′) n es t
 
 -- the pairs of runs of line ℓ and line m that reach each other by three bytes
-abbrev pub pairsOf : ℕ → List ℕ → ℕ → ℕ → Bool → Bool → Bool → List Edge
-pairsOf L ws ℓ m prev adj next = linkPairs prev adj next (storedRun L ws) (lineStart ws ℓ) (lineStart ws (suc ℓ)) (lineStart ws m) (lineStart ws (suc m))
+abbrev pub pairsOf : ℕ → List ℕ → ℕ → ℕ → Nbr → List Edge
+pairsOf L ws ℓ m by =
+    linkPairs by (storedRun L ws) (record { ca = lineStart ws ℓ; cb = runsTo ws ℓ; na = lineStart ws m; nb = runsTo ws m })
 
--- the touches of line ℓ, as the words hold its runs and those of its neighbours
-abbrev pub touchesIn : ℕ → List ℕ → ℕ → List ℕ → List ℕ → ℕ → List Edge
-touchesIn n dims L structure ws ℓ = touchesOf (leadingOf n dims) structure (lineStart ws) (storedRun L ws) ℓ
+-- the touches of line ℓ, as the words hold its runs and those of its neighbours: by all offsets, and by the one with that code
+abbrev pub touchesIn : Geo → List ℕ → List ℕ → ℕ → List Edge
+touchesIn g structure ws ℓ = touchesOf (leadingOf (g .leads) (g .dims)) structure (lineStart ws) (storedRun (g .lines) ws) ℓ
+
+abbrev pub touchesByIn : Geo → List ℕ → List ℕ → ℕ → ℕ → List Edge
+touchesByIn g structure ws ℓ code = touchesBy (leadingOf (g .leads) (g .dims)) structure (lineStart ws) (storedRun (g .lines) ws) ℓ code
+
+-- and what their unions do
+abbrev pub LineUnited : Geo → List ℕ → List ℕ → List ℕ → ℕ → ℕ → Type 0
+LineUnited g structure ws ws′ ℓ t = UnitedIn (g .lines) ws ws′ (runsTo ws ℓ) (touchesIn g structure ws ℓ) t
+
+abbrev pub UnitedBy : Geo → List ℕ → List ℕ → List ℕ → ℕ → ℕ → ℕ → Type 0
+UnitedBy g structure ws ws′ ℓ code t = UnitedIn (g .lines) ws ws′ (runsTo ws ℓ) (touchesByIn g structure ws ℓ code) t

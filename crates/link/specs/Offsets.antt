@@ -1,16 +1,11 @@
--- Offsets of -1, 0 or 1 and coordinates as signed numbers.
+-- Coordinates as signed numbers, moved by offsets of -1, 0 or 1.
 -- Assumes nothing.
 use mathlib.Core.Path.{_≡_}
 use mathlib.Core.Bool.{Bool, cond, _&&_}
-use Prim.Native.Nat.{ℕ, zero, suc, _+_, _-_, _≤_, _<_}
+use Prim.Native.Nat.{ℕ, _+_, _-_, _≤_, _<_}
 use lib.Dec.{ltb, leb}
-use lib.IntN.{ℤ, pos, negsuc, natAbs}
-
--- the digit of an offset, as in the structure's order: 0, 1, 2 for -1, 0, 1. Above 2 it is no offset
-abbrev pub digit : ℤ → ℕ
-digit (pos n) = suc n
-digit (negsuc zero) = 0
-digit (negsuc (suc n)) = 3
+use lib.IntN.{ℤ, pos, natAbs}
+use Rattle.sweep.specs.Sweeps.{digit}
 
 -- c is a coordinate in a dimension of d, which a word holds, and o an offset
 pub record Move (c o : ℤ) (d : ℕ) : Type 0 where

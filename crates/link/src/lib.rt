@@ -1,76 +1,63 @@
 // The union of a line with its neighbours.
 //
 //     union_line    unites the runs of a line with those that they touch in the lines before, and answers how many unions were joins
-//     link          does so with one neighbouring line, by the three bytes of a leading offset
-//     sweep         unites each pair of runs that two comparisons pass, with the neighbouring runs' ends widened or shifted by one
 //     nbr_line      a line's neighbour by coordinates, for an offset that `delta` gives
 //
 // Promised (specs/Lines.antt): the roots afterwards are those of the grouping held before with the line's touches added, the count is
 // that of the unions whose roots differed, and every word but parents stands.
 ghost use mathlib.Core.Path.{_≡_};
-ghost use mathlib.Core.Bool.{_&&_};
 ghost use mathlib.Core.List.{map};
-ghost use Prim.Native.Nat.{ℕ, _+_, _-_, _/_, _^_, _≤_, _<_};
-ghost use lib.Dec.{ltb, leb};
+ghost use Prim.Native.Nat.{ℕ, _/_, _^_, _≤_, _<_};
 ghost use lib.IntN.{natAbs};
 ghost use Rattle.frame.specs.Shape.{size};
-ghost use Rattle.frame.specs.Words.{lineStart, storedRun};
-ghost use Rattle.frame.specs.Touches.{touchesBy};
-ghost use Rattle.forest.specs.Unions.{United};
-ghost use Rattle.link.specs.Offsets.{digit, Move, movedTo};
-ghost use Rattle.link.specs.Sweeps.{runIn, TwoLines, ToSweep, ToSkip, ToRow, Skipped, RowUnites, sweepPairs, linkPairs};
-ghost use Rattle.link.specs.Lines.{leadingOf, threeDigits, signedCoords, Moves, nbrOf, LinesReady, LineReady, UnitedIn, pairsOf, touchesIn, runsTo};
+ghost use Rattle.sweep.specs.Sweeps.{digit};
+ghost use Rattle.link.specs.Offsets.{Move, movedTo};
+ghost use Rattle.link.specs.Lines.{threeDigits, signedCoords, Moves, nbrOf, runsTo};
+ghost use Rattle.link.specs.Lines.{LinesReady, LineReady, UnitedIn, LineUnited, UnitedBy, pairsOf};
 
 // ---- a line and all its neighbours. The words are the whole memory: line starts, then the runs' words
 
 // Unites the runs of a line, the last that there is, with those of its neighbours: by each leading offset that is used, in C order.
 // Answers how many of the unions were joins.
-pub fn union_line(
-    words: &mut [u32],
-    lines: usize,
-    dims: [usize; 3],
-    n: usize,
-    structure: &[u8],
-    line: usize,
-) -> usize
-    requires { ⌜ LineReady n dims lines (now structure) (now words) line ⌝ }
-    ensures { λ t. ⌜ UnitedIn lines (now (words .entry)) (now (words .exit)) (runsTo (now (words .entry)) line) (touchesIn n dims lines (now (structure .entry)) (now (words .entry)) line) t ⌝ }
+pub fn union_line(words: &mut [u32], g: geo::Geo, structure: &[u8], line: usize) -> usize
+    requires { ⌜ LineReady g (now structure) (now words) line ⌝ }
+    ensures { λ t. ⌜ LineUnited g (now (structure .entry)) (now (words .entry)) (now (words .exit)) line t ⌝ }
 {
     if words[line] == words[line + 1] {
         return 0;
     }
+    let dims = g.dims;
     let c = coords(dims, line);
-    let count = backward_count(n);
+    let count = backward_count(g.leads);
     let mut joins: usize = 0;
-    let mut k: usize = 0;
-    while k < count {
-        joins += union_by(words, lines, dims, n, structure, line, c, k);
-        k += 1;
+    let mut code: usize = 0;
+    while code < count {
+        joins += union_by(words, g, structure, line, c, code);
+        code += 1;
     }
     joins
 }
 
-// Unites the runs of a line with those of its neighbour by the leading offset with code `k`, if there is one and the offset is used.
+// Unites the runs of a line with those of its neighbour by the leading offset with that code, if there is one and the offset is used.
 fn union_by(
     words: &mut [u32],
-    lines: usize,
-    dims: [usize; 3],
-    n: usize,
+    g: geo::Geo,
     structure: &[u8],
     line: usize,
     c: [i64; 3],
-    k: usize,
+    code: usize,
 ) -> usize
-    requires { ⌜ LineReady n dims lines (now structure) (now words) line × (c ≡ signedCoords dims line) × (k < 3 ^ n / 2) ⌝ }
-    ensures { λ t. ⌜ UnitedIn lines (now (words .entry)) (now (words .exit)) (runsTo (now (words .entry)) line) (touchesBy (leadingOf n dims) (now (structure .entry)) (lineStart (now (words .entry))) (storedRun lines (now (words .entry))) line k) t ⌝ }
+    requires { ⌜ LineReady g (now structure) (now words) line × (c ≡ signedCoords (g .dims) line) × (code < 3 ^ g .leads / 2) ⌝ }
+    ensures { λ t. ⌜ UnitedBy g (now (structure .entry)) (now (words .entry)) (now (words .exit)) line code t ⌝ }
 {
-    let prev = structure[3 * k] != 0;
-    let adj = structure[3 * k + 1] != 0;
-    let next = structure[3 * k + 2] != 0;
+    let prev = structure[3 * code] != 0;
+    let adj = structure[3 * code + 1] != 0;
+    let next = structure[3 * code + 2] != 0;
     if prev | adj | next {
-        let o = delta(n, k);
+        let dims = g.dims;
+        let o = delta(g.leads, code);
         match nbr_line(dims, c, o) {
-            NbrLine::At(m) => link_lines(words, lines, line, m, prev, adj, next),
+            NbrLine::At(m) => link_lines(words, g.lines, line, m, sweep::Nbr { prev, adj, next }),
             NbrLine::Nothing => 0,
         }
     } else {
@@ -79,125 +66,19 @@ fn union_by(
 }
 
 // Unites the runs of a line with those of an earlier line `m`, by three bytes.
-fn link_lines(
-    words: &mut [u32],
-    lines: usize,
-    line: usize,
-    m: usize,
-    prev: bool,
-    adj: bool,
-    next: bool,
-) -> usize
+fn link_lines(words: &mut [u32], lines: usize, line: usize, m: usize, by: sweep::Nbr) -> usize
     requires { ⌜ LinesReady lines (now words) line × (m < line) ⌝ }
-    ensures { λ t. ⌜ UnitedIn lines (now (words .entry)) (now (words .exit)) (runsTo (now (words .entry)) line) (pairsOf lines (now (words .entry)) line m prev adj next) t ⌝ }
+    ensures { λ t. ⌜ UnitedIn lines (now (words .entry)) (now (words .exit)) (runsTo (now (words .entry)) line)
+        (pairsOf lines (now (words .entry)) line m by) t ⌝ }
 {
-    let ca = words[line] as usize;
-    let cb = words[line + 1] as usize;
-    let na = words[m] as usize;
-    let nb = words[m + 1] as usize;
+    let at = sweep::LinePair {
+        ca: words[line] as usize,
+        cb: words[line + 1] as usize,
+        na: words[m] as usize,
+        nb: words[m + 1] as usize,
+    };
     let base = lines + 1;
-    link(&mut words[base..], ca, cb, na, nb, prev, adj, next)
-}
-
-// ---- two lines. The words begin with the first run's
-
-// Unites the runs `ca` to before `cb` of the current line with the runs `na` to before `nb` of a neighbouring one, by three bytes: cell x of
-// that line touches cell x + 1 of the current one (prev), x (adj), x - 1 (next).
-pub fn link(
-    p: &mut [u32],
-    ca: usize,
-    cb: usize,
-    na: usize,
-    nb: usize,
-    prev: bool,
-    adj: bool,
-    next: bool,
-) -> usize
-    requires { ⌜ TwoLines (now p) ca cb na nb ⌝ }
-    ensures { λ t. ⌜ United (now (p .entry)) (now (p .exit)) cb (linkPairs prev adj next (runIn (now (p .entry))) ca cb na nb) t ⌝ }
-{
-    if (ca == cb) | (na == nb) {
-        return 0;
-    }
-    if adj {
-        return sweep(p, ca, cb, na, nb, next as i64, prev as i64);
-    }
-    let mut joins: usize = 0;
-    if prev {
-        joins += sweep_shift(p, ca, cb, na, nb, 1);
-    }
-    if next {
-        joins += sweep_shift(p, ca, cb, na, nb, -1);
-    }
-    joins
-}
-
-// A sweep with the neighbouring runs shifted by `d` columns.
-fn sweep_shift(p: &mut [u32], ca: usize, cb: usize, na: usize, nb: usize, d: i64) -> usize
-    requires { ⌜ ToSweep (now p) ca cb na nb d d ⌝ }
-    ensures { λ t. ⌜ United (now (p .entry)) (now (p .exit)) cb (sweepPairs (2 - digit d) (digit d) (runIn (now (p .entry))) ca cb na nb) t ⌝ }
-{
-    sweep(p, ca, cb, na, nb, -d, d)
-}
-
-// Unites each current run with each neighbouring one, [start - lo, end + hi), that shares a column with it. Several current runs may meet
-// one neighbour, so each goes on from the first neighbour that the one before did not skip.
-fn sweep(p: &mut [u32], ca: usize, cb: usize, na: usize, nb: usize, lo: i64, hi: i64) -> usize
-    requires { ⌜ ToSweep (now p) ca cb na nb lo hi ⌝ }
-    ensures { λ t. ⌜ United (now (p .entry)) (now (p .exit)) cb (sweepPairs (digit lo) (digit hi) (runIn (now (p .entry))) ca cb na nb) t ⌝ }
-{
-    let mut joins: usize = 0;
-    let mut j = na;
-    let mut i = ca;
-    while i < cb {
-        j = skip(p, i, j, nb, hi);
-        joins += row(p, i, j, nb, lo);
-        i += 1;
-    }
-    joins
-}
-
-// The first of the runs `j` to before `nb` that does not end by the start of run `i`, or `nb`.
-fn skip(p: &[u32], i: usize, j: usize, nb: usize, hi: i64) -> usize
-    requires { ⌜ ToSkip (now p) i j nb hi ⌝ }
-    ensures { λ r. ⌜ Skipped (digit hi) (runIn (now (p .entry))) i j nb r ⌝ }
-{
-    let cs = p[frame::STRIDE * i];
-    let mut k = j;
-    while k < nb && ends_by(p[frame::STRIDE * k + frame::END], hi, cs) {
-        k += 1;
-    }
-    k
-}
-
-// Unites run `i` with the runs from `j` on that start before it ends, up to the first that does not.
-fn row(p: &mut [u32], i: usize, j: usize, nb: usize, lo: i64) -> usize
-    requires { ⌜ ToRow (now p) i j nb lo ⌝ }
-    ensures { λ t. ⌜ RowUnites (now (p .entry)) (now (p .exit)) i j nb (digit lo) t ⌝ }
-{
-    let ce = p[frame::STRIDE * i + frame::END];
-    let mut joins: usize = 0;
-    let mut k = j;
-    while k < nb && starts_before(p[frame::STRIDE * k], lo, ce) {
-        joins += forest::unite(p, i, k) as usize;
-        k += 1;
-    }
-    joins
-}
-
-// The two comparisons are of i64: a start less 1 may be below 0, an end and 1 above the largest u32.
-fn ends_by(e: u32, hi: i64, cs: u32) -> bool
-    requires { ⌜ digit hi ≤ 2 ⌝ }
-    ensures { λ t. ⌜ t ≡ leb (e + digit hi) (cs + 1) ⌝ }
-{
-    e as i64 + hi <= cs as i64
-}
-
-fn starts_before(s: u32, lo: i64, ce: u32) -> bool
-    requires { ⌜ digit lo ≤ 2 ⌝ }
-    ensures { λ t. ⌜ t ≡ ltb (s + 1) (ce + digit lo) ⌝ }
-{
-    s as i64 - lo < ce as i64
+    sweep::link(&mut words[base..], at, by)
 }
 
 // ---- leading offsets, by their codes
@@ -219,14 +100,14 @@ pub fn backward_count(n: usize) -> usize
     13
 }
 
-// The offset of `n` leading dimensions with code `k`, as three parts: 0 in the dimensions before those. Of the 27 offsets of three
+// The offset of `n` leading dimensions with that code, as three parts: 0 in the dimensions before those. Of the 27 offsets of three
 // dimensions the centre's code is 13.
-pub fn delta(n: usize, k: usize) -> [i64; 3]
-    requires { ⌜ (n ≤ 3) × (k < 3 ^ n) ⌝ }
-    ensures { λ r. ⌜ map digit r ≡ threeDigits n k ⌝ }
+pub fn delta(n: usize, code: usize) -> [i64; 3]
+    requires { ⌜ (n ≤ 3) × (code < 3 ^ n) ⌝ }
+    ensures { λ r. ⌜ map digit r ≡ threeDigits n code ⌝ }
 {
     let half = backward_count(n);
-    let c = 13 - half + k;
+    let c = 13 - half + code;
     [part(c / 9), part(c / 3 % 3), part(c % 3)]
 }
 
@@ -238,7 +119,7 @@ fn part(t: usize) -> i64
     t as i64 - 1
 }
 
-// ---- the neighbour's line, by coordinates. ThreeDims dimensions are three, those before the first being 1
+// ---- the neighbour's line, by coordinates. The dimensions are three, those before the first being 1
 
 // The leading coordinates of a line.
 pub fn coords(dims: [usize; 3], line: usize) -> [i64; 3]

@@ -145,7 +145,8 @@ fn write_record(s: label::Session, rec: &mut [u64])
 
 // An opening's: the number to return, and the record of an opening that was accepted.
 pub fn end_open(o: label::Opened, rec: &mut [u64]) -> u32
-    ensures { λ r. ⌜ (r ≡ openNumber (o .answer)) × (now (rec .exit) ≡ recordAfter (openNumber (o .answer)) (o .session) (now (rec .entry))) ⌝ }
+    ensures { λ r. ⌜ (r ≡ openNumber (o .answer))
+        × (now (rec .exit) ≡ recordAfter (openNumber (o .answer)) (o .session) (now (rec .entry))) ⌝ }
 {
     let answer = o.answer;
     match answer {
@@ -159,7 +160,8 @@ pub fn end_open(o: label::Opened, rec: &mut [u64]) -> u32
 
 // A feed's: the number to return, and the record and the answer of a feed that was accepted.
 pub fn end_feed(f: label::Fed, rec: &mut [u64], answer: &mut [u64]) -> u32
-    ensures { λ r. ⌜ FeedEnd (feedAnswer (f .answer)) (f .session) (now (rec .entry)) (now (answer .entry)) r (now (rec .exit)) (now (answer .exit)) ⌝ }
+    ensures { λ r. ⌜ FeedEnd (feedAnswer (f .answer)) (f .session) (now (rec .entry)) (now (answer .entry))
+        r (now (rec .exit)) (now (answer .exit)) ⌝ }
 {
     let said = f.answer;
     match said {

@@ -2,7 +2,7 @@
 //
 //     0    zero; in f32 +0.0          1    one
 //     z    -0.0, in f32 alone         m    the largest value; in f32 infinity
-//     n    -1 in i16, NaN in f32      h    a value whose low byte is zero: 128, 256, -32768; in f32 the smallest subnormal
+//     n    -1 in i16, NaN in f32      h    128, 256, -32768, or in f32 the smallest subnormal
 use flood::byte;
 use flood::plus;
 
@@ -60,15 +60,15 @@ fn least_kind(c: u8) -> usize {
 pub fn make_cells(
     s: &[u8],
     kind: usize,
-    a: &mut [u8; 1500],
-    b: &mut [u16; 1500],
-    d: &mut [i16; 1500],
-    e: &mut [f32; 1500],
+    a: &mut [u8; 640],
+    b: &mut [u16; 640],
+    d: &mut [i16; 640],
+    e: &mut [f32; 640],
 ) -> usize {
     let mut others = 0;
     for i in 0..s.len() {
         let c = byte(s, i);
-        if i < 1500 {
+        if i < 640 {
             a[i] = as_u8(c);
             b[i] = as_u16(c);
             d[i] = as_i16(c);
@@ -79,16 +79,14 @@ pub fn make_cells(
     others
 }
 
-fn put_bit(s: &[u8], i: usize, structure: &mut [u8; 81]) -> usize {
+fn put_bit(s: &[u8], i: usize, structure: &mut [u8]) -> usize {
     let c = byte(s, i);
-    if i < 81 {
-        structure[i] = (c == b'1') as u8;
-    }
+    flood::put_byte(structure, i, (c == b'1') as u8);
     ((c != b'0') & (c != b'1')) as usize
 }
 
 // Makes the structure's bytes. How many characters are neither 0 nor 1.
-pub fn make_structure(s: &[u8], structure: &mut [u8; 81]) -> usize {
+pub fn make_structure(s: &[u8], structure: &mut [u8]) -> usize {
     let mut others = 0;
     for i in 0..s.len() {
         others = plus(others, put_bit(s, i, structure));
@@ -96,29 +94,8 @@ pub fn make_structure(s: &[u8], structure: &mut [u8; 81]) -> usize {
     others
 }
 
-// ---- the first n places
-
-pub fn first_u8(s: &[u8; 1500], n: usize) -> &[u8] {
-    let t = &s[..];
-    samples::first(t, n)
-}
-
-pub fn first_u16(s: &[u16; 1500], n: usize) -> &[u16] {
-    let t = &s[..];
-    samples::first_u16(t, n)
-}
-
-pub fn first_i16(s: &[i16; 1500], n: usize) -> &[i16] {
-    let t = &s[..];
-    samples::first_i16(t, n)
-}
-
-pub fn first_f32(s: &[f32; 1500], n: usize) -> &[f32] {
-    let t = &s[..];
-    samples::first_f32(t, n)
-}
-
-pub fn first_bits(s: &[u8; 81], n: usize) -> &[u8] {
+// The first n cells of kind u8.
+pub fn first_u8(s: &[u8; 640], n: usize) -> &[u8] {
     let t = &s[..];
     samples::first(t, n)
 }

@@ -1,4 +1,5 @@
-// The fields of a line: what number each is, and where it begins. The first 1,600 entries of `values` are the numbers, the others the places.
+// The fields of a line: what number each is, and where it begins. The first 1,600 entries of `values` are the numbers, the others the
+// places.
 use flood::byte;
 use flood::less;
 use flood::plus;
@@ -32,18 +33,18 @@ fn text(v: usize, c: u8) -> usize {
     plus(plus(v % 4294967296 * 256, TEXT), c as usize)
 }
 
-// One character more of a line, in field k; the field of the next.
-fn take(line: &[u8], i: usize, k: usize, values: &mut [usize; 3200]) -> usize {
+// One character more of a line, in this field; the field of the next.
+fn take(line: &[u8], i: usize, field: usize, values: &mut [usize; 3200]) -> usize {
     let c = byte(line, i);
-    if k > 1598 {
-        return k;
+    if field > 1598 {
+        return field;
     }
     if (c == b' ') | (c == 10) {
-        values[k + 1601] = plus(i, 1);
-        return k + 1;
+        values[field + 1601] = plus(i, 1);
+        return field + 1;
     }
-    values[k] = roll(values[k], c);
-    k
+    values[field] = roll(values[field], c);
+    field
 }
 
 // Finds the fields of a line that ends with its byte 10, and how many there are: none where it is too long. `values` holds EMPTY before.
@@ -51,24 +52,27 @@ pub fn split(line: &[u8], values: &mut [usize; 3200]) -> usize {
     if line.len() > 1501 {
         return 0;
     }
-    let mut k = 0;
+    let mut field = 0;
     for i in 0..line.len() {
-        k = take(line, i, k, values);
+        field = take(line, i, field, values);
     }
-    k
+    field
 }
 
-// The number of field k.
-pub fn value(values: &[usize; 3200], k: usize) -> usize {
-    if k < 3200 { values[k] } else { BAD }
+// The number of a field.
+pub fn value(values: &[usize; 3200], field: usize) -> usize {
+    if field < 3200 { values[field] } else { BAD }
 }
 
-// The characters of field k, without a - in front.
-pub fn field<'a>(line: &'a [u8], values: &[usize; 3200], k: usize) -> &'a [u8] {
-    let from = value(values, plus(k, 1600));
-    let n = less(less(value(values, plus(k, 1601)), from), 1);
+// The characters of a field, without a - in front.
+pub fn text_of<'a>(line: &'a [u8], values: &[usize; 3200], field: usize) -> &'a [u8] {
+    let from = value(values, plus(field, 1600));
+    let n = less(less(value(values, plus(field, 1601)), from), 1);
     samples::part_of(line, from, less(n, (byte(line, from) == b'-') as usize))
 }
+
+// The number of the text `none`.
+pub const NONE: usize = 0x10000006e6f6e65;
 
 // The kind that a text names, in ASCII: of cells 0 u8, 1 u16, 2 i16, 3 f32; of numbers 0 u8, 1 u16, 4 u32.
 fn kind(text: usize) -> usize {
@@ -82,15 +86,17 @@ fn kind(text: usize) -> usize {
     }
 }
 
-// The kind of cell times 8 and the kind of number, or BAD.
+// The kind of cell times 4 and the kind of number, of which u32 is 2; or BAD.
 fn pair(cells: usize, numbers: usize) -> usize {
     if cells > 3 {
         return BAD;
     }
-    if numbers % 4 > 1 {
-        return BAD;
+    match numbers {
+        0 => cells * 4,
+        1 => cells * 4 + 1,
+        4 => cells * 4 + 2,
+        _ => BAD,
     }
-    cells * 8 + numbers % 8
 }
 
 pub fn kinds(values: &[usize; 3200]) -> usize {

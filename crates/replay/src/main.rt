@@ -1,32 +1,31 @@
 // Replays stored answers of the Rust with no Rust at hand: each line of standard input is a whole frame with the answer that the Rust's
-// `label_impl` gave; the frame is labelled here, by crate whole, and n and every label are compared. Where the Rust declined, the call must be
-// refused with 10 and leave the output as it was. A line, of at most 1,500 bytes:
+// `label_impl` gave; the frame is labelled here, by crate whole, and n and every label are compared. Where the Rust declined, the call
+// must be refused with 10 and leave the output as it was. A line, of at most 1,500 bytes:
 //
 //     C N B RANK D0 .. D(rank-1) STRUCTURE CELLS ANSWER
 //
 // Fields are parted by one blank. C is u8, u16, i16 or f32, the kind of cell; N is u8, u16 or u32, the kind of number; B is the block
-// count; then come the rank and the dimensions. STRUCTURE is 3^rank characters 0 or 1; CELLS is one character a cell (see cells.rt), or
-// - where there are none. ANSWER is `none`, or n and the labels in C order.
+// count; then come the rank and the dimensions. STRUCTURE is 3^rank characters 0 or 1; CELLS is one character a cell (see cells.rt), at
+// most 640, or - where there are none. ANSWER is `none`, or n and the labels in C order.
 //
 // The file `stdin` beside src/ is made by `compare/answers FOLDER > crates/replay/stdin`, where FOLDER has the Rust's files.
 //
-// Printed are the answers, how many agreed and how many differed, the lines that do not have the form, the answers of each rank and those that
-// are `none`, and the numbers of the first line that differed and the first that does not have the form: 0 where there is none. A line whose
-// lengths do not fit its shape is refused by the call, and so differs.
-mod calls;
+// Printed are the answers, how many agreed and how many differed, the lines that do not have the form, the answers of each rank and those
+// that are `none`, and the numbers of the first line that differed and the first that does not have the form: 0 where there is none. A
+// line whose lengths do not fit its shape is refused by the call, and so differs.
 mod cells;
 mod fields;
-mod report;
 
 use fields::value;
 use flood::less;
 use flood::plus;
-use trial::tally::add;
-use trial::tally::at;
-use trial::tally::set;
+use samples::tally;
+use samples::tally::add;
+use samples::tally::at;
+use trial::answers::Answer;
 
-// The entries of `state`: first what is printed, in its order; a rank's count stands RANKS after the rank, and an outcome's first line FIRST after its
-// count. Then the length of the line so far, and its number.
+// The entries of `state`: first what is printed, in its order; a rank's count stands RANKS after the rank, and an outcome's first line
+// FIRST after its count. Then the length of the line so far, and its number.
 const ANSWERS: usize = 1;
 
 const AGREED: usize = 2;
@@ -45,88 +44,68 @@ const LENGTH: usize = 20;
 
 const LINE: usize = 21;
 
-// What an output place holds before the call.
-const BEFORE: usize = 171;
-
 // ---- one answer
 
-fn get_u16(s: &[u16; 1500], i: usize) -> u16 {
-    if i < 1500 { s[i] } else { 0 }
-}
-
-// What an output place of a kind holds.
-fn place(kind: usize, x: &[u8; 1500], y: &[u16; 1500], z: &[u32; 1500], i: usize) -> usize {
-    match kind {
-        0 => flood::byte(x, i) as usize,
-        1 => get_u16(y, i) as usize,
-        _ => flood::get(z, i) as usize,
+// n; for refusal 10 the number of `none`, and for any other BAD.
+fn said(answer: Answer) -> usize {
+    let number = answer.number;
+    match number {
+        0 => answer.a,
+        10 => fields::NONE,
+        _ => fields::BAD,
     }
 }
 
-// What it should hold: the labels are the fields from `from` to before `to`.
-fn right(values: &[usize; 3200], from: usize, to: usize, i: usize) -> usize {
-    let k = plus(from, i);
-    if k < to { value(values, k) } else { BEFORE }
-}
-
-// How many places of an output hold something else than they should; one more where n is not what was answered.
-fn wrong(
-    values: &[usize; 3200],
-    rank: usize,
-    fields: usize,
-    kind: usize,
-    n: usize,
-    x: &[u8; 1500],
-    y: &[u16; 1500],
-    z: &[u32; 1500],
-) -> usize {
-    let mut count = (n != value(values, plus(rank, 6))) as usize;
-    let from = plus(rank, 7);
-    for i in 0..1500 {
-        let got = place(kind, x, y, z, i);
-        count = plus(count, (got != right(values, from, fields, i)) as usize);
+// Whether n is what the line says, and every place of the output: the labels are the fields from `from` to before `to`, and each other
+// place holds 171, as before the call.
+fn agrees(values: &[usize; 3200], from: usize, to: usize, n: usize, got: &[u32; 640]) -> bool {
+    let mut alike = n == value(values, less(from, 1));
+    for i in 0..640 {
+        let field = plus(from, i);
+        let right = if field < to {
+            value(values, field)
+        } else {
+            171
+        };
+        alike = alike & (flood::get(got, i) as usize == right);
     }
-    count
+    alike
 }
 
-// Labels the frame of a line. How much differs from what the line says.
+fn shape_of(values: &[usize; 3200]) -> &[usize] {
+    let t = &values[..];
+    &t[4..]
+}
+
+// Labels the frame of a line, and says whether all is as the line says.
 fn label(
     values: &[usize; 3200],
     rank: usize,
     fields: usize,
     kinds: usize,
     structure: &[u8],
-    count: usize,
-    a: &[u8; 1500],
-    b: &[u16; 1500],
-    d: &[i16; 1500],
-    e: &[f32; 1500],
+    a: &[u8],
+    b: &[u16],
+    d: &[i16],
+    e: &[f32],
     words: &mut [u32; 8192],
-) -> usize {
-    let mut x = [171u8; 1500];
-    let mut y = [171u16; 1500];
-    let mut z = [171u32; 1500];
+) -> bool {
+    let mut got = [171u32; 640];
     let shape = samples::first_sizes(shape_of(values), rank);
-    let n = calls::label(
+    let answer = trial::frames::label_cells(
         kinds,
         shape,
         structure,
         words,
-        cells::first_u8(a, count),
-        cells::first_u16(b, count),
-        cells::first_i16(d, count),
-        cells::first_f32(e, count),
-        samples::lend_u8(&mut x, count),
-        samples::lend_u16(&mut y, count),
-        samples::lend_u32(&mut z, count),
+        a,
+        b,
+        d,
+        e,
+        a.len(),
         values[2],
+        &mut got,
     );
-    wrong(values, rank, fields, kinds % 8, calls::said(n), &x, &y, &z)
-}
-
-fn shape_of(values: &[usize; 3200]) -> &[usize] {
-    let t = &values[..];
-    &t[4..]
+    agrees(values, plus(rank, 7), fields, said(answer), &got)
 }
 
 // A frame whose cells are these characters: its outcome.
@@ -139,27 +118,19 @@ fn try_frame(
     s: &[u8],
     words: &mut [u32; 8192],
 ) -> usize {
-    let mut a = [0u8; 1500];
-    let mut b = [0u16; 1500];
-    let mut d = [0i16; 1500];
-    let mut e = [0.0f32; 1500];
-    if cells::make_cells(s, kinds / 8, &mut a, &mut b, &mut d, &mut e) != 0 {
+    let mut u8s = [0u8; 640];
+    let mut u16s = [0u16; 640];
+    let mut i16s = [0i16; 640];
+    let mut f32s = [0.0f32; 640];
+    if cells::make_cells(s, kinds / 4, &mut u8s, &mut u16s, &mut i16s, &mut f32s) != 0 {
         return MALFORMED;
     }
-    let wrong = label(
-        values,
-        rank,
-        fields,
-        kinds,
-        structure,
-        s.len(),
-        &a,
-        &b,
-        &d,
-        &e,
-        words,
-    );
-    if wrong == 0 { AGREED } else { DIFFERED }
+    let a = cells::first_u8(&u8s, s.len());
+    let b = samples::first_u16(&u16s, s.len());
+    let d = samples::first_i16(&i16s, s.len());
+    let e = samples::first_f32(&f32s, s.len());
+    let agreed = label(values, rank, fields, kinds, structure, a, b, d, e, words);
+    if agreed { AGREED } else { DIFFERED }
 }
 
 // ---- lines
@@ -179,7 +150,7 @@ fn is_formed(
     if less(rank, 1) > 3 {
         return false;
     }
-    if value(values, plus(rank, 6)) == calls::NONE {
+    if value(values, plus(rank, 6)) == fields::NONE {
         return labels == 0;
     }
     labels == cells
@@ -192,7 +163,7 @@ fn count_answer(state: &mut [u64; 40], rank: usize, n: usize, outcome: usize) {
     }
     add(state, ANSWERS);
     add(state, plus(rank, RANKS));
-    if n == calls::NONE {
+    if n == fields::NONE {
         add(state, NONE);
     }
 }
@@ -207,22 +178,28 @@ fn try_fields(
 ) -> usize {
     let mut structure = [0u8; 81];
     let kinds = fields::kinds(values);
-    let s = fields::field(line, values, plus(rank, 5));
-    let bits = fields::field(line, values, plus(rank, 4));
+    let s = fields::text_of(line, values, plus(rank, 5));
+    let bits = fields::text_of(line, values, plus(rank, 4));
     if !is_formed(values, kinds, rank, fields, s.len()) {
         return MALFORMED;
     }
     if cells::make_structure(bits, &mut structure) != 0 {
         return MALFORMED;
     }
-    let bytes = cells::first_bits(&structure, bits.len());
+    let bytes = samples::first(&structure, bits.len());
     try_frame(values, rank, fields, kinds, bytes, s, words)
+}
+
+fn set(state: &mut [u64; 40], i: usize, x: u64) {
+    if i < 40 {
+        state[i] = x;
+    }
 }
 
 // Counts an outcome, and notes its first line unless it agreed.
 fn tell(state: &mut [u64; 40], outcome: usize) {
     let first = plus(outcome, FIRST);
-    let line = at(state, LINE) as usize;
+    let line = at(state, LINE);
     add(state, outcome);
     if (outcome != AGREED) & (at(state, first) == 0) {
         set(state, first, line);
@@ -241,14 +218,14 @@ fn try_line(line: &[u8], words: &mut [u32; 8192], state: &mut [u64; 40]) {
 
 // One byte more of the input: `line` has those of its line so far. What is past 1,600 is not kept: the line is too long as it is.
 fn push(line: &mut [u8; 1600], c: u8, words: &mut [u32; 8192], state: &mut [u64; 40]) {
-    let n = at(state, LENGTH) as usize;
+    let n = state[LENGTH] as usize;
     if n < 1600 {
         line[n] = c;
-        set(state, LENGTH, n + 1);
+        state[LENGTH] = (n + 1) as u64;
     }
     if c == 10 {
         try_line(line_of(line, plus(n, 1)), words, state);
-        set(state, LENGTH, 0);
+        state[LENGTH] = 0;
     }
 }
 
@@ -286,12 +263,16 @@ fn main() {
     let mut state = [0u64; 40];
     read_all(&mut line, &mut words, &mut state);
     try_rest(&mut state);
-    report::report(&state);
+    tally::report(
+        &state,
+        b"answers=#\nagreed=#\ndiffered=#\nmalformed=#\nrank1=#\nrank2=#\nrank3=#\nrank4=#\nnone=#\nfirst_differed=#\nfirst_malformed=#\n",
+        ANSWERS,
+    );
 }
 
 // What stands after the last byte 10 does not have the form.
 fn try_rest(state: &mut [u64; 40]) {
-    if at(state, LENGTH) != 0 {
+    if state[LENGTH] != 0 {
         add(state, LINE);
         tell(state, MALFORMED);
     }

@@ -32,8 +32,10 @@ put-from (r ∷ rs) ws i j =
     let n : suc (suc (2 * j)) ≡ 2 * suc j = omega arith in
     let m : i + stride * suc j ≡ i + stride * j + stride = omega arith in
     let ws′ : List ℕ = set (set ws (i + stride * j + startAt 0) (r .start)) (i + stride * j + endAt 0) (r .end) in
-    ap (λ (a : ℕ). putBoundaries (set (set ws a (r .start)) (boundaryAt i (suc (2 * j))) (r .end)) i (suc (suc (2 * j))) (boundariesOf rs)) p
-    ∙ ap (λ (a : ℕ). putBoundaries (set (set ws (i + stride * j + startAt 0) (r .start)) a (r .end)) i (suc (suc (2 * j))) (boundariesOf rs)) q
+    ap (λ (a : ℕ). putBoundaries (set (set ws a (r .start)) (boundaryAt i (suc (2 * j))) (r .end)) i (suc (suc (2 * j)))
+    (boundariesOf rs)) p
+    ∙ ap (λ (a : ℕ). putBoundaries (set (set ws (i + stride * j + startAt 0) (r .start)) a (r .end)) i (suc (suc (2 * j)))
+    (boundariesOf rs)) q
     ∙ ap (λ (a : ℕ). putBoundaries ws′ i a (boundariesOf rs)) n
     ∙ put-from rs ws′ i (suc j)
     ∙ ap (λ (a : ℕ). putRuns ws′ a rs) m
@@ -87,55 +89,63 @@ none-past false x = refl
 
 -- ---- written
 
-pub length-put : (es : List ℕ) (ws : List ℕ) (i k : ℕ) → length (putBoundaries ws i k es) ≡ length ws
+length-put : (es : List ℕ) (ws : List ℕ) (i k : ℕ) → length (putBoundaries ws i k es) ≡ length ws
 unfolding putBoundaries
 length-put [] ws i k = refl
 length-put (e ∷ es) ws i k = length-put es (set ws (boundaryAt i k) e) i (suc k) ∙ length-set ws (boundaryAt i k) e
 
-put-append : (es r : List ℕ) (ws : List ℕ) (i k : ℕ) → putBoundaries ws i k (es ++ r) ≡ putBoundaries (putBoundaries ws i k es) i (k + length es) r
+put-append : (es r : List ℕ) (ws : List ℕ) (i k : ℕ)
+    → putBoundaries ws i k (es ++ r) ≡ putBoundaries (putBoundaries ws i k es) i (k + length es) r
 unfolding putBoundaries
 put-append [] r ws i k = let e : k ≡ k + 0 = omega arith in ap (λ (a : ℕ). putBoundaries ws i a r) e
 put-append (e ∷ es) r ws i k =
     let n : suc k + length es ≡ k + suc (length es) = omega arith in
-    put-append es r (set ws (boundaryAt i k) e) i (suc k) ∙ ap (λ (a : ℕ). putBoundaries (putBoundaries (set ws (boundaryAt i k) e) i (suc k) es) i a r) n
+    put-append es r (set ws (boundaryAt i k) e) i (suc k)
+    ∙ ap (λ (a : ℕ). putBoundaries (putBoundaries (set ws (boundaryAt i k) e) i (suc k) es) i a r) n
 
 -- What is left: the boundaries es, from boundary k on, written into ws, give what es₀ from k₀ on give in ws₀
-pub record Left (ws₀ : List ℕ) (i k₀ : ℕ) (es₀ : List ℕ) (ws : List ℕ) (k : ℕ) (es : List ℕ) : Type 0 where
+pub record Rest (ws₀ : List ℕ) (i k₀ : ℕ) (es₀ : List ℕ) (ws : List ℕ) (k : ℕ) (es : List ℕ) : Type 0 where
   pub words : putBoundaries ws i k es ≡ putBoundaries ws₀ i k₀ es₀
   pub count : k + length es ≡ k₀ + length es₀
   pub long : length ws ≡ length ws₀
 
-pub left-all : (ws : List ℕ) (i k : ℕ) (es : List ℕ) → Left ws i k es ws k es
-left-all ws i k es = record { words = refl; count = refl; long = refl }
+pub rest-all : (ws : List ℕ) (i k : ℕ) (es : List ℕ) → Rest ws i k es ws k es
+rest-all ws i k es = record { words = refl; count = refl; long = refl }
 
 -- the same, at equal words, boundary and rest
-pub left-same : {ws₀ : List ℕ} {i k₀ : ℕ} {es₀ ws ws′ : List ℕ} {k k′ : ℕ} {es es′ : List ℕ} → ws ≡ ws′ → k ≡ k′ → es ≡ es′ → Left ws₀ i k₀ es₀ ws k es → Left ws₀ i k₀ es₀ ws′ k′ es′
-left-same {ws₀} {i} {k₀} {es₀} p q r h = transport (λ j. Left ws₀ i k₀ es₀ (p j) (q j) (r j)) h
+pub rest-same : {ws₀ : List ℕ} {i k₀ : ℕ} {es₀ ws ws′ : List ℕ} {k k′ : ℕ} {es es′ : List ℕ} → ws ≡ ws′ → k ≡ k′ → es ≡ es′
+    → Rest ws₀ i k₀ es₀ ws k es → Rest ws₀ i k₀ es₀ ws′ k′ es′
+rest-same {ws₀} {i} {k₀} {es₀} p q r h = transport (λ j. Rest ws₀ i k₀ es₀ (p j) (q j) (r j)) h
 
 module _ {ws₀ : List ℕ} {i k₀ : ℕ} {es₀ ws : List ℕ} {k : ℕ} where
   -- the next boundary is written
-  pub left-one : {e : ℕ} {es : List ℕ} → Left ws₀ i k₀ es₀ ws k (e ∷ es) → Left ws₀ i k₀ es₀ (set ws (boundaryAt i k) e) (k + 1) es
+  pub rest-one : {e : ℕ} {es : List ℕ} → Rest ws₀ i k₀ es₀ ws k (e ∷ es) → Rest ws₀ i k₀ es₀ (set ws (boundaryAt i k) e) (k + 1) es
   unfolding putBoundaries
-  left-one {e} {es} h =
+  rest-one {e} {es} h =
       let q : k + 1 ≡ suc k = omega arith in
       let n = h .count in
-      record { words = ap (λ (a : ℕ). putBoundaries (set ws (boundaryAt i k) e) i a es) q ∙ h .words; count = omega arith; long = length-set ws (boundaryAt i k) e ∙ h .long }
+      record {
+        words = ap (λ (a : ℕ). putBoundaries (set ws (boundaryAt i k) e) i a es) q ∙ h .words;
+        count = omega arith;
+        long = length-set ws (boundaryAt i k) e ∙ h .long;
+      }
 
   -- there is room for it
-  pub left-room : {e : ℕ} {es : List ℕ} (x : ℕ) → Left ws₀ i k₀ es₀ ws k (e ∷ es) → BoundaryRoom ws₀ i k₀ x es₀ → boundaryAt i k < length ws
-  left-room x h f = let n = h .count in let m = h .long in let b = f .below in let r = f .room in omega arith
+  pub rest-room : {e : ℕ} {es : List ℕ} (x : ℕ) → Rest ws₀ i k₀ es₀ ws k (e ∷ es) → BoundaryRoom ws₀ i k₀ x es₀ → boundaryAt i k < length ws
+  rest-room x h f = let n = h .count in let m = h .long in let b = f .below in let r = f .room in omega arith
 
   -- several are
-  pub left-put : {ws′ : List ℕ} {k′ : ℕ} (es r : List ℕ) → Left ws₀ i k₀ es₀ ws k (es ++ r) → Put ws ws′ i k k′ es → Left ws₀ i k₀ es₀ ws′ k′ r
-  left-put es r h p =
+  pub rest-put : {ws′ : List ℕ} {k′ : ℕ} (es r : List ℕ) → Rest ws₀ i k₀ es₀ ws k (es ++ r) → Put ws ws′ i k k′ es
+      → Rest ws₀ i k₀ es₀ ws′ k′ r
+  rest-put es r h p =
       let n = h .count in
       let m = length-append es r in
-      left-same (sym (p .written)) (sym (p .next)) refl
+      rest-same (sym (p .written)) (sym (p .next)) refl
       (record { words = sym (put-append es r ws i k) ∙ h .words; count = omega arith; long = length-put es ws i k ∙ h .long })
 
   -- there is room for them
-  pub left-fits : (x : ℕ) (es r : List ℕ) → Left ws₀ i k₀ es₀ ws k (es ++ r) → BoundaryRoom ws₀ i k₀ x es₀ → BoundaryRoom ws i k x es
-  left-fits x es r h f =
+  pub rest-fits : (x : ℕ) (es r : List ℕ) → Rest ws₀ i k₀ es₀ ws k (es ++ r) → BoundaryRoom ws₀ i k₀ x es₀ → BoundaryRoom ws i k x es
+  rest-fits x es r h f =
       let n = h .count in
       let m = length-append es r in
       let l = h .long in
@@ -143,19 +153,20 @@ module _ {ws₀ : List ℕ} {i k₀ : ℕ} {es₀ ws : List ℕ} {k : ℕ} where
       let o = f .room in
       record { runs = f .runs; below = omega arith; room = omega arith; short = f .short }
 
-  -- the places of a number's set digits, and of those the next
-  pub left-took : {ws′ : List ℕ} (x e e′ : ℕ) → Left ws₀ i k₀ es₀ ws k (places 64 e x) → Took ws ws′ i k x e e′ → Left ws₀ i k₀ es₀ ws′ (k + 1) (places 64 e′ x)
-  left-took x e e′ h s = left-same (sym (s .written)) refl refl (left-one (left-same refl refl (s .lowest) h))
+  -- the places of a number's set bits, and of those the next
+  pub rest-took : {ws′ : List ℕ} (x e e′ : ℕ) → Rest ws₀ i k₀ es₀ ws k (places 64 e x) → Took ws ws′ i k x e e′
+      → Rest ws₀ i k₀ es₀ ws′ (k + 1) (places 64 e′ x)
+  rest-took x e e′ h s = rest-same (sym (s .written)) refl refl (rest-one (rest-same refl refl (s .lowest) h))
 
-  pub left-next : (x e : ℕ) → (e ≡ 0 → ⊥) → Left ws₀ i k₀ es₀ ws k (places 64 e x) → BoundaryRoom ws₀ i k₀ x es₀ → Next ws i k x e
-  left-next x e p h f =
+  pub rest-next : (x e : ℕ) → 0 < e → Rest ws₀ i k₀ es₀ ws k (places 64 e x) → BoundaryRoom ws₀ i k₀ x es₀ → Next ws i k x e
+  rest-next x e p h f =
       let n = h .count in
       let l = h .long in
       let b = f .below in
       let o = f .room in
-      record { some = omega arith; fits = record { runs = f .runs; below = omega arith; room = omega arith; short = f .short } }
+      record { some = p; fits = record { runs = f .runs; below = omega arith; room = omega arith; short = f .short } }
 
   -- none is left
-  pub left-none : Left ws₀ i k₀ es₀ ws k [] → Put ws₀ ws i k₀ k es₀
+  pub rest-none : Rest ws₀ i k₀ es₀ ws k [] → Put ws₀ ws i k₀ k es₀
   unfolding putBoundaries
-  left-none h = let n = h .count in record { next = omega arith; written = h .words }
+  rest-none h = let n = h .count in record { next = omega arith; written = h .words }

@@ -2,7 +2,6 @@
 pub mod PutLaws
 pub mod BoundaryLaws
 pub mod MaskLaws
-pub mod BlockLaws
-pub mod FillLaws
+pub mod ChunkLaws
+pub mod CopyLaws
 pub mod NzLaws
-pub mod ScalarLaws

@@ -1,4 +1,4 @@
--- Masks: how weights make one, the places of its set digits, and the mask moved up by one.
+-- Masks: how weights make one, the places of its set bits, and the mask moved up by one.
 -- Assumes nothing.
 use mathlib.Core.Bool.{Bool, true, false}
 use mathlib.Core.Path.{_≡_, refl, sym, ap, ap₂, _∙_, subst}
@@ -10,7 +10,7 @@ use native.Mathlib.Numerals.{add-one}
 use native.Mathlib.Omega.{arith}
 use native.Mathlib.Decide.{decLt}
 use lib.Arith.{digits-div, digits-mod}
-use lib.ListN.{length, getD, set, drop, drop-of-length-le, List·getD-map}
+use lib.ListN.{length, getD, set, drop, List·getD-map}
 use lib.Seq.{getD-drop, getD-set-same, getD-set-other}
 use lib.Pow.{shl-exact}
 use lib.Count.{trailingZeros, under}
@@ -24,20 +24,16 @@ pub bit-lt : (b : Bool) → bit b < 2
 bit-lt false = omega arith
 bit-lt true = omega arith
 
-pub byte-bit : (b : Bool) → boolByte b ≡ bit b
+byte-bit : (b : Bool) → boolByte b ≡ bit b
 byte-bit false = refl
 byte-bit true = refl
 
--- ---- the mask is built digit by digit, lowest first
+-- ---- the mask is built bit by bit, lowest first
 
 pub mask-nil : (k : ℕ) → maskOf k [] ≡ 0
 unfolding maskOf
 mask-nil zero = refl
 mask-nil (suc k) = refl
-
--- past the end no digit is set
-pub mask-past : (k x : ℕ) (l : List Bool) → length l ≤ x → 0 ≡ maskOf k (drop x l)
-mask-past k x l h = sym (ap (maskOf k) (drop-of-length-le l h) ∙ mask-nil k)
 
 pub mask-lt : (k : ℕ) (l : List Bool) → maskOf k l < 2 ^ k
 unfolding maskOf
@@ -45,7 +41,7 @@ mask-lt zero l = omega arith
 mask-lt (suc k) [] = let h = mask-lt k [] in omega (arith, pow-suc 2 k)
 mask-lt (suc k) (b ∷ l) = let h = mask-lt k l in let g = bit-lt b in omega (arith, pow-suc 2 k)
 
-pub mask-more : (k : ℕ) (l : List Bool) → maskOf (suc k) l ≡ bit (getD l k false) * 2 ^ k + maskOf k l
+mask-more : (k : ℕ) (l : List Bool) → maskOf (suc k) l ≡ bit (getD l k false) * 2 ^ k + maskOf k l
 unfolding maskOf
 mask-more zero [] = refl
 mask-more zero (false ∷ l) = refl
@@ -53,21 +49,24 @@ mask-more zero (true ∷ l) = refl
 mask-more (suc k) [] = omega arith
 mask-more (suc k) (b ∷ l) =
     let h = mask-more k l in
-    let g : bit (getD l k false) * 2 ^ suc k ≡ bit (getD l k false) * 2 ^ k * 2 = ap (λ (n : ℕ). bit (getD l k false) * n) (pow-suc 2 k) ∙ sym (mul-assoc (bit (getD l k false)) (2 ^ k) 2) in
+    let g : bit (getD l k false) * 2 ^ suc k ≡ bit (getD l k false) * 2 ^ k * 2 = ap (λ (n : ℕ). bit (getD l k false) * n) (pow-suc 2 k)
+    ∙ sym (mul-assoc (bit (getD l k false)) (2 ^ k) 2) in
     omega arith
 
 -- two lists with the same first k flags have the same mask
-pub mask-agree : (k : ℕ) (l l′ : List Bool) → ((i : ℕ) → i < k → getD l i false ≡ getD l′ i false) → maskOf k l ≡ maskOf k l′
+mask-agree : (k : ℕ) (l l′ : List Bool) → ((i : ℕ) → i < k → getD l i false ≡ getD l′ i false) → maskOf k l ≡ maskOf k l′
 unfolding maskOf
 mask-agree zero l l′ h = refl
 mask-agree (suc k) l l′ h =
-    mask-more k l ∙ ap₂ (λ (b : Bool) (m : ℕ). bit b * 2 ^ k + m) (h k (omega arith)) (mask-agree k l l′ (λ i p. h i (omega arith))) ∙ sym (mask-more k l′)
+    mask-more k l ∙ ap₂ (λ (b : Bool) (m : ℕ). bit b * 2 ^ k + m) (h k (omega arith)) (mask-agree k l l′ (λ i p. h i (omega arith)))
+    ∙ sym (mask-more k l′)
 
 -- the mask of j + k cells: that of the first j, and above it that of the next k
-pub mask-cat : (j k : ℕ) (l : List Bool) → maskOf (j + k) l ≡ maskOf k (drop j l) * 2 ^ j + maskOf j l
+mask-cat : (j k : ℕ) (l : List Bool) → maskOf (j + k) l ≡ maskOf k (drop j l) * 2 ^ j + maskOf j l
 unfolding maskOf
 mask-cat zero k l = let e : 0 + k ≡ k = omega arith in ap (λ (n : ℕ). maskOf n l) e ∙ omega arith
-mask-cat (suc j) k [] = let e = mask-nil k in ap (λ (n : ℕ). maskOf n []) (suc-add j k) ∙ sym (ap (λ (n : ℕ). n * 2 ^ suc j + 0) e ∙ omega arith)
+mask-cat (suc j) k [] = let e = mask-nil k in ap (λ (n : ℕ). maskOf n []) (suc-add j k)
+    ∙ sym (ap (λ (n : ℕ). n * 2 ^ suc j + 0) e ∙ omega arith)
 mask-cat (suc j) k (b ∷ l) =
     let h = mask-cat j k l in
     let a : ℕ = maskOf k (drop j l) in
@@ -81,7 +80,8 @@ unfolding nz
 flag-at b i = sym (List·getD-map nz b i 0)
 
 -- a turn of the loop that weighs
-pub weigh-turn : (l : List Bool) (t : List ℕ) (i : ℕ) (b : Bool) → i < length t → b ≡ getD l i false → Weighs l t i → Weighs l (set t i (boolByte b * 2 ^ (i % 8) % 2 ^ 8)) (i + 1)
+pub weigh-turn : (l : List Bool) (t : List ℕ) (i : ℕ) (b : Bool) → i < length t → b ≡ getD l i false → Weighs l t i
+    → Weighs l (set t i (boolByte b * 2 ^ (i % 8) % 2 ^ 8)) (i + 1)
 weigh-turn l t i b h g f k p = go (decLt k i)
   where
     v : ℕ
@@ -100,15 +100,18 @@ weigh-turn l t i b h g f k p = go (decLt k i)
         subst (λ (n : ℕ). getD (set t i v) n 0 ≡ bit (getD l n false) * 2 ^ (n % 8)) e (getD-set-same t i v 0 h ∙ is)
 
 -- a turn of the loop that joins eight weights
-pub eight-turn : (l : List Bool) (t : List ℕ) (j i s : ℕ) → Weighs l t 64 → j + i < 64 → j % 8 ≡ 0 → i < 8 → s ≡ maskOf i (drop j l) → s + getD t (j + i) 0 ≡ maskOf (i + 1) (drop j l)
+pub eight-turn : (l : List Bool) (t : List ℕ) (j i s : ℕ) → Weighs l t 64 → j + i < 64 → j % 8 ≡ 0 → i < 8 → s ≡ maskOf i (drop j l)
+    → s + getD t (j + i) 0 ≡ maskOf (i + 1) (drop j l)
 eight-turn l t j i s f h r g e =
     let m : (j + i) % 8 ≡ i = omega arith in
-    let w : getD t (j + i) 0 ≡ bit (getD (drop j l) i false) * 2 ^ i = f (j + i) h ∙ ap₂ (λ (c : Bool) (n : ℕ). bit c * 2 ^ n) (sym (getD-drop j l i false)) m in
+    let w : getD t (j + i) 0 ≡ bit (getD (drop j l) i false) * 2 ^ i = f (j + i) h
+    ∙ ap₂ (λ (c : Bool) (n : ℕ). bit c * 2 ^ n) (sym (getD-drop j l i false)) m in
     let a = mask-more i (drop j l) in
     ap₂ (λ (u v : ℕ). u + v) e w ∙ omega (arith, ap (λ (n : ℕ). maskOf n (drop j l)) (add-one i))
 
 -- a turn of the loop that joins bytes
-pub byte-turn : (l : List Bool) (j m p : ℕ) → j + 8 ≤ 64 → m ≡ maskOf j l → p ≡ maskOf 8 (drop j l) → bitOr m (p * 2 ^ j % 2 ^ 64) ≡ maskOf (j + 8) l
+pub byte-turn : (l : List Bool) (j m p : ℕ) → j + 8 ≤ 64 → m ≡ maskOf j l → p ≡ maskOf 8 (drop j l)
+    → bitOr m (p * 2 ^ j % 2 ^ 64) ≡ maskOf (j + 8) l
 byte-turn l j m p h e g =
     let q : 8 + j ≤ 64 = omega arith in
     ap₂ (λ (u v : ℕ). bitOr u (v * 2 ^ j % 2 ^ 64)) e g
@@ -120,7 +123,7 @@ byte-turn l j m p h e g =
 pub shows-mask : (flags : List Bool) (x : ℕ) (b : List ℕ) → Shows flags x b 64 → maskOf 64 (map nz b) ≡ maskOf 64 (drop x flags)
 shows-mask flags x b h = mask-agree 64 (map nz b) (drop x flags) (λ i p. sym (flag-at b i) ∙ h i p ∙ sym (getD-drop x flags i false))
 
--- ---- the places of the set digits
+-- ---- the places of the set bits
 
 pub places-zero : (k x : ℕ) → places k 0 x ≡ []
 unfolding places
@@ -131,7 +134,7 @@ pub places-cons : (k n d x : ℕ) → d < 2 → places (suc k) (n * 2 + d) x ≡
 unfolding places
 places-cons k n d x h = ap₂ (λ (a b : ℕ). consIf a x (places k b (suc x))) (digits-mod n h) (digits-div n h)
 
--- e & (e - 1) clears the lowest set digit, which stands at the count of trailing zeros
+-- e & (e - 1) clears the lowest set bit, which stands at the count of trailing zeros
 even-clear : (e : ℕ) → e % 2 ≡ 0 → 0 < e → bitAnd e (e - 1) ≡ bitAnd (e / 2) (e / 2 - 1) * 2
 even-clear e h p =
     let a : (e - 1) / 2 ≡ e / 2 - 1 = omega arith in
@@ -164,7 +167,9 @@ unfolding places trailingZeros
 lowest zero e x p q = absurd (omega arith)
 lowest (suc k) e x p q = go (parity e) (lowest k (e / 2) (suc x))
   where
-    go : (e % 2 ≡ 0) ⊎ (e % 2 ≡ 1) → (0 < e / 2 → e / 2 < 2 ^ k → places k (e / 2) (suc x) ≡ (suc x + trailingZeros k (e / 2)) ∷ places k (bitAnd (e / 2) (e / 2 - 1)) (suc x))
+    go : (e % 2 ≡ 0) ⊎ (e % 2 ≡ 1)
+        → (0 < e / 2 → e / 2 < 2 ^ k
+        → places k (e / 2) (suc x) ≡ (suc x + trailingZeros k (e / 2)) ∷ places k (bitAnd (e / 2) (e / 2 - 1)) (suc x))
         → places (suc k) e x ≡ (x + trailingZeros (suc k) e) ∷ places (suc k) (bitAnd e (e - 1)) x
     go (inl h) ih =
         let t : suc x + trailingZeros k (e / 2) ≡ x + suc (trailingZeros k (e / 2)) = omega arith in
@@ -177,17 +182,18 @@ lowest (suc k) e x p q = go (parity e) (lowest k (e / 2) (suc x))
         ∙ ap₂ (λ (a : ℕ) (r : List ℕ). a ∷ r) (sym (add-zero x) ∙ ap (λ (d : ℕ). x + under d (trailingZeros k (e / 2))) (sym h))
         (sym (places-double k (e / 2) x) ∙ ap (λ (n : ℕ). places (suc k) n x) (sym (odd-clear e h)))
 
--- the next place of 64 digits, and the next two boundaries where each place is a run of its own
+-- the next place of 64 bits, and the next two boundaries where each place is a run of its own
 pub next-place : (e x : ℕ) → (e ≡ 0 → ⊥) → e < 2 ^ 64 → places 64 e x ≡ (x + trailingZeros 64 e) ∷ places 64 (bitAnd e (e - 1)) x
 next-place e x p q = lowest 64 e x (omega arith) q
 
-pub next-alone : (m x : ℕ) → (m ≡ 0 → ⊥) → m < 2 ^ 64 → alone (places 64 m x) ≡ (x + trailingZeros 64 m) ∷ (x + trailingZeros 64 m + 1) ∷ alone (places 64 (bitAnd m (m - 1)) x)
+pub next-alone : (m x : ℕ) → (m ≡ 0 → ⊥) → m < 2 ^ 64
+    → alone (places 64 m x) ≡ (x + trailingZeros 64 m) ∷ (x + trailingZeros 64 m + 1) ∷ alone (places 64 (bitAnd m (m - 1)) x)
 unfolding alone
 next-alone m x p q =
     ap alone (next-place m x p q)
     ∙ ap (λ (n : ℕ). (x + trailingZeros 64 m) ∷ n ∷ alone (places 64 (bitAnd m (m - 1)) x)) (sym (add-one (x + trailingZeros 64 m)))
 
--- no digit is set
+-- no bit is set
 pub no-place : (e x : ℕ) → e ≡ 0 → places 64 e x ≡ []
 no-place e x p = ap (λ (n : ℕ). places 64 n x) p ∙ places-zero 64 x
 
@@ -197,17 +203,18 @@ none-alone m x p = ap alone (no-place m x p)
 
 -- ---- moved up by one
 
--- the top digit is the last flag's
+-- the top bit is the last flag's
 pub top : (k : ℕ) (l : List Bool) → maskOf (suc k) l / 2 ^ k ≡ bit (getD l k false)
 top k l = ap (λ (n : ℕ). n / 2 ^ k) (mask-more k l) ∙ digits-div (bit (getD l k false)) (mask-lt k l)
 
--- the top digit is lost, and c moved in
+-- the top bit is lost, and c moved in
 pub moved : (k : ℕ) (c : Bool) (l : List Bool) → bitOr (maskOf (suc k) l * 2 % 2 ^ suc k) (bit c) ≡ maskOf (suc k) (c ∷ l)
 unfolding maskOf
 moved k c l =
     let g : ℕ = bit (getD l k false) in
     let h = mask-lt k l in
     let a : maskOf (suc k) l * 2 ≡ g * 2 ^ suc k + maskOf k l * 2 =
-    ap (λ (n : ℕ). n * 2) (mask-more k l) ∙ add-mul (g * 2 ^ k) (maskOf k l) 2 ∙ ap (λ (n : ℕ). n + maskOf k l * 2) (mul-assoc g (2 ^ k) 2 ∙ ap (λ (n : ℕ). g * n) (sym (pow-suc 2 k))) in
+    ap (λ (n : ℕ). n * 2) (mask-more k l) ∙ add-mul (g * 2 ^ k) (maskOf k l) 2
+    ∙ ap (λ (n : ℕ). n + maskOf k l * 2) (mul-assoc g (2 ^ k) 2 ∙ ap (λ (n : ℕ). g * n) (sym (pow-suc 2 k))) in
     let b : maskOf k l * 2 < 2 ^ suc k = omega (arith, pow-suc 2 k) in
     ap (λ (n : ℕ). bitOr n (bit c)) (ap (λ (n : ℕ). n % 2 ^ suc k) a ∙ digits-mod g b) ∙ or-shifted (maskOf k l) 1 (bit c) (bit-lt c)

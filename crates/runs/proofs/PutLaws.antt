@@ -1,9 +1,9 @@
--- The words after runs were written: their length, which stand, what each run's words hold, and one list of runs after another.
+-- The words after runs were written: their length, which of them stand, and what each run's words hold.
 -- Assumes nothing.
 use mathlib.Core.Path.{_≡_, refl, ap, _∙_}
 use mathlib.Core.Logic.{_≢_}
 use mathlib.Core.Bool.{Bool}
-use mathlib.Core.List.{List, [], _∷_, _++_}
+use mathlib.Core.List.{List, [], _∷_}
 use Prim.Native.Nat.{ℕ, zero, suc, _+_, _*_, _≤_, _<_}
 use native.Mathlib.Omega.{arith}
 use native.Mathlib.Nat.{zero-lt-suc}
@@ -22,13 +22,14 @@ length-one : (ws : List ℕ) (i : ℕ) (r : Run) → length (putRun ws i r) ≡ 
 unfolding putRun
 length-one ws i r = simp length-set
 
-pub length-put : (rs : List Run) (ws : List ℕ) (i : ℕ) → length (putRuns ws i rs) ≡ length ws
+length-put : (rs : List Run) (ws : List ℕ) (i : ℕ) → length (putRuns ws i rs) ≡ length ws
 unfolding putRuns putRun
 length-put [] ws i = refl
 length-put (r ∷ rs) ws i = length-put rs (putRun ws i r) (i + stride) ∙ length-one ws i r
 
 -- a word that is no run's start or end stands
-pub put-other : (rs : List Run) (ws : List ℕ) (i j : ℕ) → ((q : ℕ) → q < length rs → (j ≢ i + startAt q) × (j ≢ i + endAt q)) → getD (putRuns ws i rs) j 0 ≡ getD ws j 0
+pub put-other : (rs : List Run) (ws : List ℕ) (i j : ℕ) → ((q : ℕ) → q < length rs → (j ≢ i + startAt q) × (j ≢ i + endAt q))
+    → getD (putRuns ws i rs) j 0 ≡ getD ws j 0
 unfolding putRuns
 put-other [] ws i j h = refl
 put-other (r ∷ rs) ws i j h =
@@ -43,7 +44,8 @@ pub put-below : (rs : List Run) (ws : List ℕ) (i j : ℕ) → j < i → getD (
 put-below rs ws i j h = put-other rs ws i j (λ q p. ((λ e. omega arith), (λ e. omega arith)))
 
 -- run q's start and end
-pub put-start : (rs : List Run) (ws : List ℕ) (i q : ℕ) (d : Run) → q < length rs → i + stride * length rs ≤ length ws → getD (putRuns ws i rs) (i + startAt q) 0 ≡ getD rs q d .start
+pub put-start : (rs : List Run) (ws : List ℕ) (i q : ℕ) (d : Run) → q < length rs → i + stride * length rs ≤ length ws
+    → getD (putRuns ws i rs) (i + startAt q) 0 ≡ getD rs q d .start
 unfolding putRuns putRun
 put-start [] ws i q d h f = absurd (omega arith)
 put-start (r ∷ rs) ws i zero d h f =
@@ -53,9 +55,11 @@ put-start (r ∷ rs) ws i zero d h f =
 put-start (r ∷ rs) ws i (suc q) d h f =
     let e : i + startAt (suc q) ≡ i + stride + startAt q = omega arith in
     let n = length-one ws i r in
-    ap (λ (j : ℕ). getD (putRuns (putRun ws i r) (i + stride) rs) j 0) e ∙ put-start rs (putRun ws i r) (i + stride) q d (omega arith) (omega arith)
+    ap (λ (j : ℕ). getD (putRuns (putRun ws i r) (i + stride) rs) j 0) e
+    ∙ put-start rs (putRun ws i r) (i + stride) q d (omega arith) (omega arith)
 
-pub put-end : (rs : List Run) (ws : List ℕ) (i q : ℕ) (d : Run) → q < length rs → i + stride * length rs ≤ length ws → getD (putRuns ws i rs) (i + endAt q) 0 ≡ getD rs q d .end
+pub put-end : (rs : List Run) (ws : List ℕ) (i q : ℕ) (d : Run) → q < length rs → i + stride * length rs ≤ length ws
+    → getD (putRuns ws i rs) (i + endAt q) 0 ≡ getD rs q d .end
 unfolding putRuns putRun
 put-end [] ws i q d h f = absurd (omega arith)
 put-end (r ∷ rs) ws i zero d h f =
@@ -65,17 +69,11 @@ put-end (r ∷ rs) ws i zero d h f =
 put-end (r ∷ rs) ws i (suc q) d h f =
     let e : i + endAt (suc q) ≡ i + stride + endAt q = omega arith in
     let n = length-one ws i r in
-    ap (λ (j : ℕ). getD (putRuns (putRun ws i r) (i + stride) rs) j 0) e ∙ put-end rs (putRun ws i r) (i + stride) q d (omega arith) (omega arith)
-
--- the runs of one line, and then those of the next
-pub put-append : (rs qs : List Run) (ws : List ℕ) (i : ℕ) → putRuns ws i (rs ++ qs) ≡ putRuns (putRuns ws i rs) (i + stride * length rs) qs
-unfolding putRuns putRun
-put-append [] qs ws i = let e : i ≡ i + stride * 0 = omega arith in ap (λ (j : ℕ). putRuns ws j qs) e
-put-append (r ∷ rs) qs ws i =
-    let e : i + stride + stride * length rs ≡ i + stride * suc (length rs) = omega arith in
-    put-append rs qs (putRun ws i r) (i + stride) ∙ ap (λ (j : ℕ). putRuns (putRuns (putRun ws i r) (i + stride) rs) j qs) e
+    ap (λ (j : ℕ). getD (putRuns (putRun ws i r) (i + stride) rs) j 0) e
+    ∙ put-end rs (putRun ws i r) (i + stride) q d (omega arith) (omega arith)
 
 -- ---- of a whole line
 
-pub extracted-long : {left : Bool} {flags : List Bool} {ws ws′ : List ℕ} {i n : ℕ} → Extracted left flags ws ws′ i n → length ws′ ≡ length ws
+pub extracted-long : {left : Bool} {flags : List Bool} {ws ws′ : List ℕ} {i n : ℕ} → Extracted left flags ws ws′ i n
+    → length ws′ ≡ length ws
 extracted-long {left} {flags} {ws} {i = i} e = ap length (e .written) ∙ length-put (lineRuns left flags) ws i

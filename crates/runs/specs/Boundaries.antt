@@ -38,12 +38,12 @@ abbrev pub consIf : ℕ → ℕ → List ℕ → List ℕ
 consIf zero x r = r
 consIf (suc d) x r = x ∷ r
 
--- the places of the set digits among the lowest k of e, lowest first, where digit 0 stands at x
+-- the places of the set bits among the lowest k of e, lowest first, where bit 0 stands at x
 unfoldable pub places : ℕ → ℕ → ℕ → List ℕ
 places zero e x = []
 places (suc k) e x = consIf (e % 2) x (places k (e / 2) (suc x))
 
--- what writing the lowest of them as boundary k asks, and what it does: e′ is e without that digit
+-- what writing the lowest of them as boundary k asks, and what it does: e′ is e without that bit
 pub record Next (ws : List ℕ) (i k x e : ℕ) : Type 0 where
   pub some : 0 < e
   pub fits : BoundaryRoom ws i k x (places 64 e x)
@@ -59,11 +59,11 @@ unfoldable pub alone : List ℕ → List ℕ
 alone [] = []
 alone (p ∷ ps) = p ∷ suc p ∷ alone ps
 
--- the digits of the mask m that differ from the one before, which is `carry` for the first
+-- the bits of the mask m that differ from the one before, which is `carry` for the first
 abbrev pub edgeBits : ℕ → ℕ → ℕ
 edgeBits m carry = bitXor m (bitOr (m * 2 % 2 ^ 64) carry)
 
--- the boundaries that the 64 cells from column x on give, where m is their mask, and `carry` the digit of the cell before them
-unfoldable pub blockBoundaries : Bool → ℕ → ℕ → ℕ → List ℕ
-blockBoundaries true m carry x = places 64 (edgeBits m carry) x
-blockBoundaries false m carry x = alone (places 64 m x)
+-- the boundaries that the chunk from column x on gives, where m is its mask, and `carry` the bit of the cell before it
+unfoldable pub chunkBoundaries : Bool → ℕ → ℕ → ℕ → List ℕ
+chunkBoundaries true m carry x = places 64 (edgeBits m carry) x
+chunkBoundaries false m carry x = alone (places 64 m x)

@@ -1,4 +1,4 @@
--- Masks: numbers whose binary digits are the flags of 64 cells.
+-- Masks: numbers whose bits are the flags of a chunk, which is 64 cells.
 -- Assumes nothing.
 use mathlib.Core.Path.{_≡_}
 use mathlib.Core.Bool.{Bool, true, false}
@@ -11,13 +11,13 @@ abbrev pub bit : Bool → ℕ
 bit false = 0
 bit true = 1
 
--- the first k flags of l as binary digits, the first lowest; past the end of l digits are 0
+-- the first k flags of l as bits, the first lowest; past the end of l bits are 0
 unfoldable pub maskOf : ℕ → List Bool → ℕ
 maskOf zero l = 0
 maskOf (suc k) [] = 0
 maskOf (suc k) (b ∷ l) = maskOf k l * 2 + bit b
 
--- n is how many of the 64 columns from x on are in a line of w cells
+-- n is how many cells of the chunk from column x on are in a line of w cells
 pub record Part (w x n : ℕ) : Type 0 where
   pub inside : x ≤ w
   pub many : n ≡ min 64 (w - x)

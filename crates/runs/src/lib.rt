@@ -3,9 +3,9 @@
 // Promised of each extract_line (specs/Extract.antt): the answer is the count of the line's runs, as `lineRuns` lists them, and
 // the start and the end of each are written to the lent words, in order, STRIDE words apart from place `at` on. Every other word stands.
 //
-// A line is taken 64 cells at a time, by a mask with a digit for each cell. A kind of cell differs only in how its mask is made.
+// A line is taken by chunks of 64 cells, each by a mask with a bit for each cell. A kind of cell differs only in how its mask is made.
 ghost use mathlib.Core.Path.{_≡_};
-ghost use mathlib.Core.Bool.{Bool, true, false, not};
+ghost use mathlib.Core.Bool.{Bool};
 ghost use mathlib.Core.List.{List, map};
 ghost use Prim.Native.Nat.{_+_, _<_};
 ghost use lib.ListN.{length, drop, set};
@@ -13,22 +13,22 @@ ghost use lib.Count.{trailingZeros};
 ghost use Rattle.frame.specs.Kinds.{nz, nzℤ, nzF};
 ghost use Rattle.runs.specs.Extract.{Room, Extracted};
 ghost use Rattle.runs.specs.Masks.{maskOf, Part, Shows, Weighs, Eight};
-ghost use Rattle.runs.specs.Boundaries.{boundaryAt, BoundaryRoom, Put, Next, Took, places, alone, blockBoundaries};
+ghost use Rattle.runs.specs.Boundaries.{boundaryAt, BoundaryRoom, Put, Next, Took, places, alone, chunkBoundaries};
 
-// ---- lines of each kind. With `split` (the left byte is zero) each nonzero cell is a run, else each maximal stretch of them. Past the
-// last 64 cells there are fewer, or none: a zero follows them, so that a run that reaches the line's end ends there
+// ---- lines of each kind. With `left` (the left byte is nonzero) each maximal stretch of nonzero cells is a run, else each such cell.
+// Of the last chunk fewer than 64 cells are in the line, or none: a zero follows them, so that a run that reaches the line's end ends there
 
-pub fn extract_line_u8(line: &[u8], split: bool, words: &mut [u32], at: usize) -> usize
-    requires { ⌜ Room (not split) (map nz (now line)) (now words) at ⌝ }
-    ensures { λ r. ⌜ Extracted (not split) (map nz (now (line .entry))) (now (words .entry)) (now (words .exit)) at r ⌝ }
+pub fn extract_line_u8(line: &[u8], left: bool, words: &mut [u32], at: usize) -> usize
+    requires { ⌜ Room left (map nz (now line)) (now words) at ⌝ }
+    ensures { λ r. ⌜ Extracted left (map nz (now (line .entry))) (now (words .entry)) (now (words .exit)) at r ⌝ }
 {
-    extract_bytes(line, split, words, at)
+    extract_bytes(line, left, words, at)
 }
 
 // Bytes, as the Rust's; here with the left byte zero too.
-pub fn extract_bytes(line: &[u8], split: bool, words: &mut [u32], at: usize) -> usize
-    requires { ⌜ Room (not split) (map nz (now line)) (now words) at ⌝ }
-    ensures { λ r. ⌜ Extracted (not split) (map nz (now (line .entry))) (now (words .entry)) (now (words .exit)) at r ⌝ }
+pub fn extract_bytes(line: &[u8], left: bool, words: &mut [u32], at: usize) -> usize
+    requires { ⌜ Room left (map nz (now line)) (now words) at ⌝ }
+    ensures { λ r. ⌜ Extracted left (map nz (now (line .entry))) (now (words .entry)) (now (words .exit)) at r ⌝ }
 {
     let n = line.len();
     let mut k: usize = 0;
@@ -36,17 +36,17 @@ pub fn extract_bytes(line: &[u8], split: bool, words: &mut [u32], at: usize) -> 
     let mut x: usize = 0;
     while n - x >= 64 {
         let m = mask_u8(line, x, 64);
-        k = block_boundaries(words, at, k, m, carry, split, x);
+        k = chunk_boundaries(words, at, k, Chunk { m, carry }, left, x);
         carry = m >> 63;
         x += 64;
     }
     let m = mask_u8(line, x, n - x);
-    block_boundaries(words, at, k, m, carry, split, x) / 2
+    chunk_boundaries(words, at, k, Chunk { m, carry }, left, x) / 2
 }
 
-pub fn extract_line_u16(line: &[u16], split: bool, words: &mut [u32], at: usize) -> usize
-    requires { ⌜ Room (not split) (map nz (now line)) (now words) at ⌝ }
-    ensures { λ r. ⌜ Extracted (not split) (map nz (now (line .entry))) (now (words .entry)) (now (words .exit)) at r ⌝ }
+pub fn extract_line_u16(line: &[u16], left: bool, words: &mut [u32], at: usize) -> usize
+    requires { ⌜ Room left (map nz (now line)) (now words) at ⌝ }
+    ensures { λ r. ⌜ Extracted left (map nz (now (line .entry))) (now (words .entry)) (now (words .exit)) at r ⌝ }
 {
     let n = line.len();
     let mut k: usize = 0;
@@ -54,17 +54,17 @@ pub fn extract_line_u16(line: &[u16], split: bool, words: &mut [u32], at: usize)
     let mut x: usize = 0;
     while n - x >= 64 {
         let m = mask_u16(line, x, 64);
-        k = block_boundaries(words, at, k, m, carry, split, x);
+        k = chunk_boundaries(words, at, k, Chunk { m, carry }, left, x);
         carry = m >> 63;
         x += 64;
     }
     let m = mask_u16(line, x, n - x);
-    block_boundaries(words, at, k, m, carry, split, x) / 2
+    chunk_boundaries(words, at, k, Chunk { m, carry }, left, x) / 2
 }
 
-pub fn extract_line_i16(line: &[i16], split: bool, words: &mut [u32], at: usize) -> usize
-    requires { ⌜ Room (not split) (map nzℤ (now line)) (now words) at ⌝ }
-    ensures { λ r. ⌜ Extracted (not split) (map nzℤ (now (line .entry))) (now (words .entry)) (now (words .exit)) at r ⌝ }
+pub fn extract_line_i16(line: &[i16], left: bool, words: &mut [u32], at: usize) -> usize
+    requires { ⌜ Room left (map nzℤ (now line)) (now words) at ⌝ }
+    ensures { λ r. ⌜ Extracted left (map nzℤ (now (line .entry))) (now (words .entry)) (now (words .exit)) at r ⌝ }
 {
     let n = line.len();
     let mut k: usize = 0;
@@ -72,17 +72,17 @@ pub fn extract_line_i16(line: &[i16], split: bool, words: &mut [u32], at: usize)
     let mut x: usize = 0;
     while n - x >= 64 {
         let m = mask_i16(line, x, 64);
-        k = block_boundaries(words, at, k, m, carry, split, x);
+        k = chunk_boundaries(words, at, k, Chunk { m, carry }, left, x);
         carry = m >> 63;
         x += 64;
     }
     let m = mask_i16(line, x, n - x);
-    block_boundaries(words, at, k, m, carry, split, x) / 2
+    chunk_boundaries(words, at, k, Chunk { m, carry }, left, x) / 2
 }
 
-pub fn extract_line_f32(line: &[f32], split: bool, words: &mut [u32], at: usize) -> usize
-    requires { ⌜ Room (not split) (map nzF (now line)) (now words) at ⌝ }
-    ensures { λ r. ⌜ Extracted (not split) (map nzF (now (line .entry))) (now (words .entry)) (now (words .exit)) at r ⌝ }
+pub fn extract_line_f32(line: &[f32], left: bool, words: &mut [u32], at: usize) -> usize
+    requires { ⌜ Room left (map nzF (now line)) (now words) at ⌝ }
+    ensures { λ r. ⌜ Extracted left (map nzF (now (line .entry))) (now (words .entry)) (now (words .exit)) at r ⌝ }
 {
     let n = line.len();
     let mut k: usize = 0;
@@ -90,44 +90,21 @@ pub fn extract_line_f32(line: &[f32], split: bool, words: &mut [u32], at: usize)
     let mut x: usize = 0;
     while n - x >= 64 {
         let m = mask_f32(line, x, 64);
-        k = block_boundaries(words, at, k, m, carry, split, x);
+        k = chunk_boundaries(words, at, k, Chunk { m, carry }, left, x);
         carry = m >> 63;
         x += 64;
     }
     let m = mask_f32(line, x, n - x);
-    block_boundaries(words, at, k, m, carry, split, x) / 2
+    chunk_boundaries(words, at, k, Chunk { m, carry }, left, x) / 2
 }
 
-// ---- the plain form, for comparison: bytes with the left byte nonzero, by a look at each cell
-
-pub fn extract_scalar(line: &[u8], words: &mut [u32], at: usize) -> usize
-    requires { ⌜ Room true (map nz (now line)) (now words) at ⌝ }
-    ensures { λ r. ⌜ Extracted true (map nz (now (line .entry))) (now (words .entry)) (now (words .exit)) at r ⌝ }
-{
-    let n = line.len();
-    let mut k: usize = 0;
-    let mut on = false;
-    let mut x: usize = 0;
-    while x < n {
-        let c = nz_u8(line[x]);
-        if c != on {
-            edge(words, at, k, x as u32);
-            k += 1;
-            on = c;
-        }
-        x += 1;
-    }
-    // past the line no cell is nonzero
-    block_boundaries(words, at, k, 0, on as u64, false, x) / 2
-}
-
-// ---- the masks of each kind: of the 64 cells from x on, n of which are in the line; those past it count as zero
+// ---- the masks of each kind: of the chunk from x on, n of whose cells are in the line; those past it count as zero
 
 fn mask_u8(line: &[u8], x: usize, n: usize) -> u64
     requires { ⌜ Part (length (now line)) x n ⌝ }
     ensures { λ r. ⌜ r ≡ maskOf 64 (drop x (map nz (now (line .entry)))) ⌝ }
 {
-    let b = block_u8(line, x, n);
+    let b = chunk_u8(line, x, n);
     mask64(b)
 }
 
@@ -135,7 +112,7 @@ fn mask_u16(line: &[u16], x: usize, n: usize) -> u64
     requires { ⌜ Part (length (now line)) x n ⌝ }
     ensures { λ r. ⌜ r ≡ maskOf 64 (drop x (map nz (now (line .entry)))) ⌝ }
 {
-    let b = block_u16(line, x, n);
+    let b = chunk_u16(line, x, n);
     mask64(b)
 }
 
@@ -143,7 +120,7 @@ fn mask_i16(line: &[i16], x: usize, n: usize) -> u64
     requires { ⌜ Part (length (now line)) x n ⌝ }
     ensures { λ r. ⌜ r ≡ maskOf 64 (drop x (map nzℤ (now (line .entry)))) ⌝ }
 {
-    let b = block_i16(line, x, n);
+    let b = chunk_i16(line, x, n);
     mask64(b)
 }
 
@@ -152,7 +129,7 @@ fn mask_f32(line: &[f32], x: usize, n: usize) -> u64
     ensures { λ r. ⌜ r ≡ maskOf 64 (drop x (map nzF (now (line .entry)))) ⌝ }
 {
     if n == 64 {
-        let b = block_f32(line, x);
+        let b = chunk_f32(line, x);
         return mask64(b);
     }
     let b = pad_f32(line, x, n);
@@ -161,7 +138,7 @@ fn mask_f32(line: &[f32], x: usize, n: usize) -> u64
 
 // ---- bytes of each kind: nonzero where the n cells from x on are, and zero past them
 
-fn block_u8(line: &[u8], x: usize, n: usize) -> [u8; 64]
+fn chunk_u8(line: &[u8], x: usize, n: usize) -> [u8; 64]
     requires { ⌜ Part (length (now line)) x n ⌝ }
     ensures { λ r. ⌜ Shows (map nz (now (line .entry))) x r 64 ⌝ }
 {
@@ -174,7 +151,7 @@ fn block_u8(line: &[u8], x: usize, n: usize) -> [u8; 64]
     b
 }
 
-fn block_u16(line: &[u16], x: usize, n: usize) -> [u8; 64]
+fn chunk_u16(line: &[u16], x: usize, n: usize) -> [u8; 64]
     requires { ⌜ Part (length (now line)) x n ⌝ }
     ensures { λ r. ⌜ Shows (map nz (now (line .entry))) x r 64 ⌝ }
 {
@@ -187,7 +164,7 @@ fn block_u16(line: &[u16], x: usize, n: usize) -> [u8; 64]
     b
 }
 
-fn block_i16(line: &[i16], x: usize, n: usize) -> [u8; 64]
+fn chunk_i16(line: &[i16], x: usize, n: usize) -> [u8; 64]
     requires { ⌜ Part (length (now line)) x n ⌝ }
     ensures { λ r. ⌜ Shows (map nzℤ (now (line .entry))) x r 64 ⌝ }
 {
@@ -214,7 +191,7 @@ fn pad_f32(line: &[f32], x: usize, n: usize) -> [u8; 64]
 }
 
 // All 64, eight at each turn: the compiler then stores them together, and mask64 need not wait for single bytes.
-fn block_f32(line: &[f32], x: usize) -> [u8; 64]
+fn chunk_f32(line: &[f32], x: usize) -> [u8; 64]
     requires { ⌜ Part (length (now line)) x 64 ⌝ }
     ensures { λ r. ⌜ Shows (map nzF (now (line .entry))) x r 64 ⌝ }
 {
@@ -232,12 +209,6 @@ fn block_f32(line: &[f32], x: usize) -> [u8; 64]
 }
 
 // ---- which cells are nonzero. An f32 is zero when it is +0.0 or -0.0; NaN is nonzero
-
-pub fn nz_u8(v: u8) -> bool
-    ensures { λ r. ⌜ r ≡ nz v ⌝ }
-{
-    v != 0
-}
 
 pub fn nz_u16(v: u16) -> bool
     ensures { λ r. ⌜ r ≡ nz v ⌝ }
@@ -302,28 +273,25 @@ fn mask8(t: [u8; 64], j: usize) -> u8
 
 // ---- boundaries: the starts and ends of runs one after the other. Boundary 2i is run i's start, 2i + 1 its end
 
-// Writes the boundaries of the 64 cells from x on, where m is their mask and carry the digit of the cell before them; the first is
-// boundary k. Answers the next boundary's number.
-fn block_boundaries(
-    words: &mut [u32],
-    at: usize,
-    k: usize,
+// The mask of 64 cells, and the bit of the cell before them.
+struct Chunk {
     m: u64,
     carry: u64,
-    split: bool,
-    x: usize,
-) -> usize
-    requires { ⌜ BoundaryRoom (now words) at k x (blockBoundaries (not split) m carry x) ⌝ }
-    ensures { λ r. ⌜ Put (now (words .entry)) (now (words .exit)) at k r (blockBoundaries (not split) m carry x) ⌝ }
+}
+
+// Writes the boundaries of the chunk from x on; the first is boundary k. Answers the next boundary's number.
+fn chunk_boundaries(words: &mut [u32], at: usize, k: usize, c: Chunk, left: bool, x: usize) -> usize
+    requires { ⌜ BoundaryRoom (now words) at k x (chunkBoundaries left (c .m) (c .carry) x) ⌝ }
+    ensures { λ r. ⌜ Put (now (words .entry)) (now (words .exit)) at k r (chunkBoundaries left (c .m) (c .carry) x) ⌝ }
 {
-    if split {
-        singles(words, at, k, m, x)
+    if left {
+        edges(words, at, k, c.m ^ ((c.m << 1) | c.carry), x)
     } else {
-        edges(words, at, k, m ^ ((m << 1) | carry), x)
+        singles(words, at, k, c.m, x)
     }
 }
 
-// Writes the places of the set digits of e, lowest first: two at each turn, which takes less time than one.
+// Writes the places of the set bits of e, lowest first: two at each turn, which takes less time than one.
 fn edges(words: &mut [u32], at: usize, k: usize, e: u64, x: usize) -> usize
     requires { ⌜ BoundaryRoom (now words) at k x (places 64 e x) ⌝ }
     ensures { λ r. ⌜ Put (now (words .entry)) (now (words .exit)) at k r (places 64 e x) ⌝ }
@@ -341,7 +309,7 @@ fn edges(words: &mut [u32], at: usize, k: usize, e: u64, x: usize) -> usize
     k
 }
 
-// As edges does, for runs of one cell each: a start and an end for each set digit.
+// As edges does, for runs of one cell each: a start and an end for each set bit.
 fn singles(words: &mut [u32], at: usize, k: usize, m: u64, x: usize) -> usize
     requires { ⌜ BoundaryRoom (now words) at k x (alone (places 64 m x)) ⌝ }
     ensures { λ r. ⌜ Put (now (words .entry)) (now (words .exit)) at k r (alone (places 64 m x)) ⌝ }
@@ -358,7 +326,7 @@ fn singles(words: &mut [u32], at: usize, k: usize, m: u64, x: usize) -> usize
     k
 }
 
-// Writes the place of the lowest set digit of e as boundary k. Answers e without that digit.
+// Writes the place of the lowest set bit of e as boundary k. Answers e without that bit.
 fn next_edge(words: &mut [u32], at: usize, k: usize, e: u64, x: usize) -> u64
     requires { ⌜ Next (now words) at k x e ⌝ }
     ensures { λ r. ⌜ Took (now (words .entry)) (now (words .exit)) at k x e r ⌝ }
@@ -367,7 +335,7 @@ fn next_edge(words: &mut [u32], at: usize, k: usize, e: u64, x: usize) -> u64
     e & (e - 1)
 }
 
-// The place of the lowest set digit of e, where digit 0 stands at x.
+// The place of the lowest set bit of e, where bit 0 stands at x.
 fn lowest(e: u64, x: usize) -> u32
     requires { ⌜ x < 2147483647 ⌝ }
     ensures { λ r. ⌜ r ≡ x + trailingZeros 64 e ⌝ }

@@ -1,9 +1,37 @@
-// Random frames of rank 1 to 4 and of at most 640 cells, and their cells in each kind. `state` is the random numbers'.
-use flood::below;
+// Random frames of rank 1 to 4 and of at most 640 cells, and their cells in each kind. A random number is made of the one before, and all
+// that a function makes is made of the one number that it is given.
+pub mod tally;
+
 use flood::byte;
 use flood::less;
 use flood::plus;
 use flood::put_byte;
+
+// ---- random numbers
+
+// Another one. The steps are not those of a test's own random numbers, so that the two never meet.
+pub fn next(x: u64) -> u64 {
+    let a = x ^ (x << 21);
+    let b = a ^ (a >> 35);
+    b ^ (b << 4)
+}
+
+// A number below n; 0 where n is 0.
+pub fn below(x: u64, n: usize) -> usize {
+    if n == 0 {
+        return 0;
+    }
+    (x % (n as u64)) as usize
+}
+
+// Mostly n; sometimes one more or one less.
+pub fn near(n: usize, x: u64) -> usize {
+    match x % 12 {
+        0 => plus(n, 1),
+        1 => less(n, (n > 0) as usize),
+        _ => n,
+    }
+}
 
 // ---- parts of slices: all of the slice where it has fewer places
 
@@ -21,25 +49,28 @@ pub fn first_sizes(s: &[usize], n: usize) -> &[usize] {
     s
 }
 
-pub fn first_u16(s: &[u16], n: usize) -> &[u16] {
-    if n <= s.len() {
-        return &s[0..n];
+pub fn first_u16(s: &[u16; 640], n: usize) -> &[u16] {
+    let t = &s[..];
+    if n <= t.len() {
+        return &t[0..n];
     }
-    s
+    t
 }
 
-pub fn first_i16(s: &[i16], n: usize) -> &[i16] {
-    if n <= s.len() {
-        return &s[0..n];
+pub fn first_i16(s: &[i16; 640], n: usize) -> &[i16] {
+    let t = &s[..];
+    if n <= t.len() {
+        return &t[0..n];
     }
-    s
+    t
 }
 
-pub fn first_f32(s: &[f32], n: usize) -> &[f32] {
-    if n <= s.len() {
-        return &s[0..n];
+pub fn first_f32(s: &[f32; 640], n: usize) -> &[f32] {
+    let t = &s[..];
+    if n <= t.len() {
+        return &t[0..n];
     }
-    s
+    t
 }
 
 pub fn lend_u8(s: &mut [u8], n: usize) -> &mut [u8] {
@@ -100,29 +131,30 @@ fn most(rank: usize) -> usize {
     }
 }
 
-// A random dimension; now and then the last is 0, and that of rank 1 or 2 a width at an edge of the masks.
-fn dimension(state: &mut [u64; 40], rank: usize, j: usize, edge: bool) -> usize {
-    let some = plus(below(state, most(rank)), 1);
-    let wide = most(plus(below(state, 4), 11));
-    let few = plus(below(state, 4), 1);
-    let rare = below(state, 24);
+// A dimension; now and then the last is 0, and, where it is said, a width at an edge of the masks.
+fn dimension(rank: usize, j: usize, edge: bool, x: u64) -> usize {
+    let some = plus(below(x, most(rank)), 1);
+    let rare = next(x);
     if plus(j, 1) == rank {
         if edge {
-            return wide;
+            return most(plus(below(rare, 4), 11));
         }
-        return if rare == 0 { 0 } else { some };
+        return if rare % 24 == 0 { 0 } else { some };
     }
-    if edge { few } else { some }
+    if edge { some % 4 + 1 } else { some }
 }
 
-// The first `rank` entries are the shape.
-pub fn random_shape(state: &mut [u64; 40], rank: usize) -> [usize; 4] {
-    let edge = (rank < 3) & (below(state, 3) == 0);
-    let a = dimension(state, rank, 0, edge);
-    let b = dimension(state, rank, 1, edge);
-    let c = dimension(state, rank, 2, edge);
-    let d = dimension(state, rank, 3, edge);
-    [a, b, c, d]
+// The first `rank` entries are the shape. A third of the frames of rank 1 and 2 have a width at an edge of the masks.
+fn random_shape(rank: usize, x: u64) -> [usize; 4] {
+    let edge = (rank < 3) & (x % 3 == 0);
+    let y = next(x);
+    let z = next(next(y));
+    [
+        dimension(rank, 0, edge, y),
+        dimension(rank, 1, edge, next(y)),
+        dimension(rank, 2, edge, z),
+        dimension(rank, 3, edge, next(z)),
+    ]
 }
 
 // ---- structures
@@ -135,8 +167,8 @@ fn moves(code: usize) -> usize {
 }
 
 // 0: all ones; 1: faces; 2: many; 3: few; 4: many, the same either way.
-fn structure_byte(mode: usize, count: usize, i: usize, drawn: usize, mirrored: u8) -> u8 {
-    let middle = count / 2;
+fn structure_byte(mode: u64, middle: usize, i: usize, x: u64, mirrored: u8) -> u8 {
+    let drawn = x % 12;
     match mode {
         0 => 1,
         1 => (moves(less(plus(i, 40), middle)) < 2) as u8,
@@ -152,116 +184,141 @@ fn structure_byte(mode: usize, count: usize, i: usize, drawn: usize, mirrored: u
     }
 }
 
-fn make_byte(state: &mut [u64; 40], structure: &mut [u8], mode: usize, i: usize) {
-    let count = structure.len();
-    let mirrored = byte(structure, less(less(count, 1), i));
-    let drawn = below(state, 12);
-    put_byte(
-        structure,
-        i,
-        structure_byte(mode, count, i, drawn, mirrored),
-    );
-}
-
-fn make_bytes(state: &mut [u64; 40], structure: &mut [u8], mode: usize) {
-    for i in 0..structure.len() {
-        make_byte(state, structure, mode, i);
-    }
-}
-
-// The left byte is made zero, or nonzero, or stays.
-pub fn make_structure(state: &mut [u64; 40], structure: &mut [u8]) {
-    let mode = below(state, 5);
-    make_bytes(state, structure, mode);
-    let at = less(structure.len() / 2, 1);
-    let before = byte(structure, at);
-    let left = match below(state, 4) {
+// The left byte: zero, nonzero, or as it is.
+fn left_byte(before: u8, x: u64) -> u8 {
+    match x % 4 {
         0 => 0,
         1 => 77,
         _ => before,
-    };
-    put_byte(structure, at, left);
+    }
+}
+
+// The first `count` bytes are the structure, an odd number.
+fn make_structure(structure: &mut [u8], count: usize, x: u64) {
+    let middle = count / 2;
+    let left = less(middle, 1);
+    let mut y = x;
+    for i in 0..count {
+        y = next(y);
+        let mirrored = byte(structure, less(less(count, 1), i));
+        put_byte(structure, i, structure_byte(x % 5, middle, i, y, mirrored));
+    }
+    let before = byte(structure, left);
+    put_byte(structure, left, left_byte(before, next(y)));
 }
 
 // ---- cells
 
-fn make_flag(state: &mut [u64; 40], flags: &mut [u8], i: usize, density: usize) {
-    let x = (below(state, 255) % 255) as u8;
-    let kept = below(state, 16);
-    let flag = if kept < density { x + 1 } else { 0 };
-    put_byte(flags, i, flag);
+fn density(x: u64) -> u64 {
+    match x % 7 {
+        0 => 1,
+        1 => 4,
+        2 => 6,
+        3 => 8,
+        4 => 12,
+        5 => 15,
+        _ => 16,
+    }
 }
 
-// Each cell nonzero with a chance of density / 16. They are the cells of kind u8.
-pub fn make_flags(state: &mut [u64; 40], flags: &mut [u8], density: usize) {
+// Each cell nonzero with a chance of so many sixteenths. They are the cells of kind u8. Some frames have a stretch of nonzero cells
+// that crosses cell 64, or ends at the width.
+fn make_flags(flags: &mut [u8], x: u64) {
+    let dense = density(x);
+    let from = plus(below(next(x), 2000), 30);
+    let mut y = next(next(x));
+    let to = plus(from, below(y, 90));
     for i in 0..flags.len() {
-        make_flag(state, flags, i, density);
+        y = next(y);
+        let is_set = (y / 256 % 16 < dense) | ((from <= i) & (i < to));
+        put_byte(flags, i, if is_set { (y % 255) as u8 + 1 } else { 0 });
     }
 }
 
-// Sets the cells from `from` to before `to`.
-pub fn set_stretch(flags: &mut [u8], from: usize, to: usize) {
-    for i in from..to {
-        put_byte(flags, i, 1);
+// Every other cell.
+pub fn make_lone(flags: &mut [u8]) {
+    for i in 0..flags.len() {
+        put_byte(flags, i, (i % 2 == 0) as u8);
     }
 }
 
-fn put_u16(s: &mut [u16], i: usize, flag: u8) {
-    let x = match flag {
+fn as_u16(flag: u8) -> u16 {
+    match flag {
         0 => 0,
         1 => 1,
         2..=90 => 256,
         91..=180 => 32768,
         _ => 65535,
-    };
-    if i < s.len() {
-        s[i] = x;
     }
 }
 
-fn put_i16(s: &mut [i16], i: usize, flag: u8) {
-    let x = match flag {
+fn as_i16(flag: u8) -> i16 {
+    match flag {
         0 => 0,
         1 => 1,
         2..=90 => 256,
         91..=180 => -32768,
         _ => -1,
-    };
-    if i < s.len() {
-        s[i] = x;
     }
 }
 
 // Zero cells are +0.0 and -0.0 in turn.
-fn put_f32(s: &mut [f32], i: usize, flag: u8) {
+fn as_f32(flag: u8, i: usize) -> f32 {
     let zero: f32 = 0.0;
-    let none = if i % 2 == 0 { zero } else { -zero };
-    let x = match flag {
-        0 => none,
+    match flag {
+        0 => { if i % 2 == 0 { zero } else { -zero } }
         1 => 1.0,
         2..=90 => zero / zero,
         91..=180 => 1.0e-45,
         _ => -1.0 / zero,
+    }
+}
+
+// The cells of the other kinds.
+pub fn make_cells(flags: &[u8], b: &mut [u16; 640], d: &mut [i16; 640], e: &mut [f32; 640]) {
+    for i in 0..640 {
+        let flag = byte(flags, i);
+        b[i] = as_u16(flag);
+        d[i] = as_i16(flag);
+        e[i] = as_f32(flag, i);
+    }
+}
+
+// ---- frames
+
+// A shape is the first `rank` entries.
+pub struct Shape {
+    pub rank: usize,
+    pub entries: [usize; 4],
+}
+
+// Where frames of a width at an edge of the masks of 64 are counted.
+fn width_entry(width: usize) -> usize {
+    match width {
+        63 => tally::WIDTHS,
+        64 => 21,
+        65 => 22,
+        128 => 23,
+        _ => tally::OTHER,
+    }
+}
+
+fn width_of(shape: Shape) -> usize {
+    let last = less(shape.rank, 1);
+    if last < 4 { shape.entries[last] } else { 0 }
+}
+
+// A random frame, counted by its rank and its width. Its structure is the first 3^rank bytes.
+pub fn random_frame(state: &mut [u64; 40], structure: &mut [u8], flags: &mut [u8]) -> Shape {
+    let x = tally::random(state);
+    let rank = plus(below(x, 4), 1);
+    let shape = Shape {
+        rank,
+        entries: random_shape(rank, next(x)),
     };
-    if i < s.len() {
-        s[i] = x;
-    }
-}
-
-pub fn make_u16(flags: &[u8], cells: &mut [u16]) {
-    for i in 0..flags.len() {
-        put_u16(cells, i, byte(flags, i));
-    }
-}
-
-pub fn make_i16(flags: &[u8], cells: &mut [i16]) {
-    for i in 0..flags.len() {
-        put_i16(cells, i, byte(flags, i));
-    }
-}
-
-pub fn make_f32(flags: &[u8], cells: &mut [f32]) {
-    for i in 0..flags.len() {
-        put_f32(cells, i, byte(flags, i));
-    }
+    make_structure(structure, power3(rank), tally::random(state));
+    make_flags(flags, tally::random(state));
+    tally::add(state, plus(rank, 15));
+    tally::add(state, width_entry(width_of(shape)));
+    shape
 }

@@ -36,7 +36,8 @@ module _ (L w : ℕ) (left : Bool) (fed runs joins : ℕ) (ws : List ℕ) where
     pub nonempty : (r : ℕ) → r < runs → start r < end r
     pub inside : (r : ℕ) → r < runs → end r ≤ w
     -- runs of a line overlapping or out of order (touching too, if the left byte is nonzero; longer than one cell, if zero)
-    pub ordered : (ℓ : ℕ) → ℓ < fed → (r : ℕ) → r < runs → lineStart ws ℓ ≤ r → suc r < lineStart ws (suc ℓ) → end r + gapOf left ≤ start (suc r)
+    pub ordered : (ℓ : ℕ) → ℓ < fed → (r : ℕ) → r < runs → lineStart ws ℓ ≤ r → suc r < lineStart ws (suc ℓ)
+        → end r + gapOf left ≤ start (suc r)
     pub single : left ≡ false → (r : ℕ) → r < runs → end r ≤ suc (start r)
     -- a parent above its run
     pub parents : (r : ℕ) → r < runs → parent r ≤ r
@@ -52,7 +53,8 @@ module _ (L w : ℕ) (left : Bool) (fed runs joins : ℕ) (ws : List ℕ) where
       ∷ all (λ ℓ. leb (lineStart ws (suc ℓ)) (lineStart ws ℓ + mostRuns left w)) fed
       ∷ all (λ r. ltb (start r) (end r)) runs
       ∷ all (λ r. leb (end r) w) runs
-      ∷ all (λ ℓ. all (λ r. (ltb r (lineStart ws ℓ) || leb (lineStart ws (suc ℓ)) (suc r)) || leb (end r + gapOf left) (start (suc r))) runs) fed
+      ∷ all (λ ℓ. all (λ r. (ltb r (lineStart ws ℓ) || leb (lineStart ws (suc ℓ)) (suc r))
+      || leb (end r + gapOf left) (start (suc r))) runs) fed
       ∷ (left || all (λ r. leb (end r) (suc (start r))) runs)
       ∷ all (λ r. leb (parent r) r) runs
       ∷ eqb joins (nonRoots parent runs)

@@ -7,24 +7,15 @@ ghost use Prim.Native.Nat.{_<_, _≤_};
 ghost use Rattle.sound.specs.Stored.{wordsSound, PassReady};
 ghost use Rattle.sound.specs.Lines.{LineInPass, LineFound, longestRun, noRun};
 
-// Whether the words are sound, for `lines` lines of `width` cells, `fed` of them fed, with those counts of runs and joins. `left` says
-// that the left byte is nonzero.
-pub fn words_sound(
-    words: &[u32],
-    lines: usize,
-    width: usize,
-    left: bool,
-    fed: usize,
-    runs: usize,
-    joins: usize,
-) -> bool
-    requires { ⌜ PassReady lines width left fed (now words) ⌝ }
-    ensures { λ r. ⌜ r ≡ wordsSound lines width left fed runs joins (now (words .entry)) ⌝ }
+// Whether the words are sound, for a frame of that geometry, `fed` lines of which are fed, with those counts of runs and joins.
+pub fn words_sound(words: &[u32], g: geo::Geo, fed: usize, runs: usize, joins: usize) -> bool
+    requires { ⌜ PassReady (g .lines) (g .width) (g .left) fed (now words) ⌝ }
+    ensures { λ r. ⌜ r ≡ wordsSound (g .lines) (g .width) (g .left) fed runs joins (now (words .entry)) ⌝ }
 {
     if words[0] != 0 {
         return false;
     }
-    let most = geo::most_runs(left, width);
+    let most = geo::most_runs(g.left, g.width);
     let mut a: usize = 0;
     let mut nonroots: usize = 0;
     let mut i: usize = 0;
@@ -33,9 +24,9 @@ pub fn words_sound(
         if (b < a) | (b > a + most) {
             return false;
         }
-        match line_sound(words, lines, width, left, a, b) {
-            LineSound::Sound(k) => {
-                nonroots += k;
+        match line_sound(words, g, a, b) {
+            LineSound::Sound(more) => {
+                nonroots += more;
                 a = b;
                 i += 1;
             }
@@ -52,20 +43,13 @@ enum LineSound {
 }
 
 // Whether the runs `a` to before `b`, those of a line, are sound. Ends rise along a line, so that only the last is held to the width.
-fn line_sound(
-    words: &[u32],
-    lines: usize,
-    width: usize,
-    left: bool,
-    a: usize,
-    b: usize,
-) -> LineSound
-    requires { ⌜ LineInPass lines width a b (now words) ⌝ }
-    ensures { λ r. ⌜ LineFound lines width left a b (now (words .entry)) r ⌝ }
+fn line_sound(words: &[u32], g: geo::Geo, a: usize, b: usize) -> LineSound
+    requires { ⌜ LineInPass (g .lines) (g .width) a b (now words) ⌝ }
+    ensures { λ r. ⌜ LineFound (g .lines) (g .width) (g .left) a b (now (words .entry)) r ⌝ }
 {
-    let gap = left as usize;
-    let longest = if left { LONGEST } else { 1 };
-    let base = lines + 1;
+    let gap = g.left as usize;
+    let longest = if g.left { LONGEST } else { 1 };
+    let base = g.lines + 1;
     let mut least: usize = 0;
     let mut nonroots: usize = 0;
     let mut r = a;
@@ -81,7 +65,7 @@ fn line_sound(
         nonroots += (p < r) as usize;
         r += 1;
     }
-    if least > width + gap {
+    if least > g.width + gap {
         return LineSound::Unsound;
     }
     LineSound::Sound(nonroots)

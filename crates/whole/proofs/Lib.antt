@@ -1,4 +1,3 @@
-pub mod FrameCheckLaws
-pub mod FillLaws
+pub mod FeedAllLaws
 pub mod NumberingLaws
 pub mod WholeLaws

@@ -18,7 +18,7 @@ use Rattle.frame.specs.Memory.{stride}
 use Rattle.frame.specs.Runs.{Run}
 use Rattle.frame.specs.Words.{lineStart, parentOf, storedRun}
 use Rattle.forest.specs.Forest.{own, roots, numberIn}
-use Rattle.link.specs.Sweeps.{InOrder}
+use Rattle.sweep.specs.Sweeps.{InOrder}
 use Rattle.write.specs.Writes.{NamesReady, named, LinesHeld, WriteReady, AtCell, LinesWritten}
 use Rattle.write.specs.Steps.{Named, Filled, Painted, LineToWrite, LineWritten}
 use Rattle.write.proofs.NameLaws.{now-parents, now-runs, now-start, now-ready, named-then, named-still, named-none}
@@ -60,7 +60,10 @@ wider h A = record { is-fed = h; low = A .low; high = A .high; covers = A .cover
 
 -- the line starts rise
 rise : {L w fed : ℕ} {ws : List ℕ} → LinesHeld L w fed ws → (m k : ℕ) → m ≤ k → k ≤ fed → lineStart ws m ≤ lineStart ws k
-rise {fed = fed} {ws = ws} H m k h = le-ind (λ j. j ≤ fed → lineStart ws m ≤ lineStart ws j) (λ u. le-refl _) (λ j l below u. le-trans (below (omega arith)) (H .sorted j u .upto)) k h
+rise {fed = fed} {ws = ws} H m k h = le-ind (λ j. j ≤ fed → lineStart ws m ≤ lineStart ws j) (λ u. le-refl _) step k h
+  where
+    step : (j : ℕ) → m ≤ j → (j ≤ fed → lineStart ws m ≤ lineStart ws j) → suc j ≤ fed → lineStart ws m ≤ lineStart ws (suc j)
+    step j l below u = le-trans (below (omega arith)) (H .sorted j u .upto)
 
 module _ {L w fed : ℕ} {ws : List ℕ} {largest : ℕ} {out : List ℕ} (A : WriteReady L w fed ws largest (length out)) where
   pub lines-begin : LinesTo L w fed ws out ws 0 out 0
@@ -88,7 +91,11 @@ module _ {L w fed : ℕ} {ws : List ℕ} {largest : ℕ} {out : List ℕ} (A : W
       below = rise (A .lines) ℓ (suc ℓ) (omega arith) h
 
       ready : NamesReady L (lineStart ws (suc ℓ)) ws
-      ready = record { room = omega (arith, A .runs .room, fewer); parents = λ r l. A .runs .parents r (omega (arith, fewer)); small = omega (arith, A .runs .small, fewer) }
+      ready = record {
+        room = omega (arith, A .runs .room, fewer);
+        parents = λ r l. A .runs .parents r (omega (arith, fewer));
+        small = omega (arith, A .runs .small, fewer);
+      }
 
       room : L + 1 + stride * lineStart ws ℓ ≤ length ws
       room = omega (arith, ready .room, below)
@@ -104,27 +111,33 @@ module _ {L w fed : ℕ} {ws : List ℕ} {largest : ℕ} {out : List ℕ} (A : W
       line-asked = record {
         within = omega (arith, A .lines .within);
         runs = rw next (now-ready (T .names) (lineStart ws (suc ℓ)) ready);
-        sorted = rw (this, next) (subst (λ (R : ℕ → Run). InOrder R (lineStart ws ℓ) (lineStart ws (suc ℓ))) (sym (now-runs (T .names))) (A .lines .sorted ℓ h));
+        sorted = rw (this, next)
+            (subst (λ (R : ℕ → Run). InOrder R (lineStart ws ℓ) (lineStart ws (suc ℓ))) (sym (now-runs (T .names))) (A .lines .sorted ℓ h));
         inside = λ r l. subst (λ (R : ℕ → Run). R r .end ≤ w) (sym (now-runs (T .names))) (A .lines .inside r (omega (arith, next, fewer)));
         before = rw this (named-still (T .names) room);
-        fits = subst (λ (p : ℕ → ℕ). roots p (lineStart now (suc ℓ)) ≤ largest) (sym (now-parents (T .names))) (rw next (le-trans few (A .fits)));
+        fits = subst (λ (p : ℕ → ℕ). roots p (lineStart now (suc ℓ)) ≤ largest) (sym (now-parents (T .names)))
+            (rw next (le-trans few (A .fits)));
         places = simp (length-take, length-drop) (omega (arith, lent-room));
       }
         where
           few : roots (parentOf L ws) (lineStart ws (suc ℓ)) ≤ roots (parentOf L ws) (lineStart ws fed)
           few = unfold roots in count-mono (own (parentOf L ws)) (lineStart ws (suc ℓ)) (lineStart ws fed) fewer
 
-      module _ {later : List ℕ} {d : ℕ} {part : List ℕ} (W : LineWritten L w ℓ now later d (midOf (ℓ * w) (length cells - ℓ * w) cells) part) where
+      module _ {later : List ℕ} {d : ℕ} {part : List ℕ}
+          (W : LineWritten L w ℓ now later d (midOf (ℓ * w) (length cells - ℓ * w) cells) part) where
         painted : Painted (storedRun L ws) (numberIn (parentOf L ws)) (lineStart ws ℓ) (lineStart ws (suc ℓ)) w (lent (ℓ * w) cells) part
         painted =
-            subst (λ (R : ℕ → Run). Painted R (numberIn (parentOf L ws)) (lineStart ws ℓ) (lineStart ws (suc ℓ)) w (lent (ℓ * w) cells) part) (now-runs (T .names))
-            (subst (λ (p : ℕ → ℕ). Painted (storedRun L now) (numberIn p) (lineStart ws ℓ) (lineStart ws (suc ℓ)) w (lent (ℓ * w) cells) part) (now-parents (T .names))
+            subst (λ (R : ℕ → Run). Painted R (numberIn (parentOf L ws)) (lineStart ws ℓ) (lineStart ws (suc ℓ)) w
+            (lent (ℓ * w) cells) part) (now-runs (T .names))
+            (subst (λ (p : ℕ → ℕ). Painted (storedRun L now) (numberIn p) (lineStart ws ℓ) (lineStart ws (suc ℓ)) w
+            (lent (ℓ * w) cells) part) (now-parents (T .names))
             (rw (← this, ← next) (W .cells)))
 
         pub lines-turn : LinesTo L w fed ws out later d (putMid (ℓ * w) (length cells - ℓ * w) cells part) (ℓ + 1)
         lines-turn = record {
           upto = omega arith;
-          names = subst (λ (k : ℕ). Named L (lineStart ws k) ws later d) (sym (add-one ℓ)) (named-then (T .names) room below (subst (λ (k : ℕ). Named L k now later d) next (W .names)));
+          names = subst (λ (k : ℕ). Named L (lineStart ws k) ws later d) (sym (add-one ℓ))
+              (named-then (T .names) room below (subst (λ (k : ℕ). Named L k now later d) next (W .names)));
           long = same-len-mid (ℓ * w) (length cells - ℓ * w) cells part (W .cells .long) ∙ T .long;
           covered = λ m x r at. cover m x r at (ltb m ℓ) refl;
           zeros = λ m x l u none. zero m x l u none (ltb m ℓ) refl;
@@ -143,8 +156,11 @@ module _ {L w fed : ℕ} {ws : List ℕ} {largest : ℕ} {out : List ℕ} (A : W
             here : (x : ℕ) → x < w → getD (back (ℓ * w) cells part) (ℓ * w + x) 0 ≡ getD part x 0
             here x u = back-from (ℓ * w) cells part fits x (omega (arith, long-part, line-asked .places))
 
-            cover : (m x r : ℕ) → AtCell L (ℓ + 1) ws m x r → (t : Bool) → ltb m ℓ ≡ t → getD (back (ℓ * w) cells part) (m * w + x) 0 ≡ numberIn (parentOf L ws) r
-            cover m x r at t e = go t e (omega (arith, at .covers, A .lines .inside r (omega (arith, at .high, rise (A .lines) (suc m) fed (omega (arith, at .is-fed)) (le-refl fed)))))
+            cover : (m x r : ℕ) → AtCell L (ℓ + 1) ws m x r → (t : Bool) → ltb m ℓ ≡ t
+                → getD (back (ℓ * w) cells part) (m * w + x) 0 ≡ numberIn (parentOf L ws) r
+            cover m x r at t e =
+                let past = rise (A .lines) (suc m) fed (omega (arith, at .is-fed)) (le-refl fed) in
+                go t e (omega (arith, at .covers, A .lines .inside r (omega (arith, at .high, past))))
               where
                 go : (t : Bool) → ltb m ℓ ≡ t → x < w → getD (back (ℓ * w) cells part) (m * w + x) 0 ≡ numberIn (parentOf L ws) r
                 go true e u = let l = ltb-true m ℓ e in earlier m x l u ∙ T .covered m x r (wider l at)
@@ -152,22 +168,30 @@ module _ {L w fed : ℕ} {ws : List ℕ} {largest : ℕ} {out : List ℕ} (A : W
                     let l = ltb-false m ℓ e in
                     let same : m ≡ ℓ = omega (arith, at .is-fed) in
                     let o : AtCell L (ℓ + 1) ws ℓ x r = subst (λ (k : ℕ). AtCell L (ℓ + 1) ws k x r) same at in
-                    ap (λ (k : ℕ). getD (back (ℓ * w) cells part) (k * w + x) 0) same ∙ here x u ∙ painted .covered x r (o .low) (o .high) (o .covers)
+                    ap (λ (k : ℕ). getD (back (ℓ * w) cells part) (k * w + x) 0) same ∙ here x u
+                    ∙ painted .covered x r (o .low) (o .high) (o .covers)
 
-            zero : (m x : ℕ) → m < ℓ + 1 → x < w → ((r : ℕ) → AtCell L (ℓ + 1) ws m x r → ⊥) → (t : Bool) → ltb m ℓ ≡ t → getD (back (ℓ * w) cells part) (m * w + x) 0 ≡ 0
+            zero : (m x : ℕ) → m < ℓ + 1 → x < w → ((r : ℕ) → AtCell L (ℓ + 1) ws m x r → ⊥) → (t : Bool) → ltb m ℓ ≡ t
+                → getD (back (ℓ * w) cells part) (m * w + x) 0 ≡ 0
             zero m x l u none true e = let k = ltb-true m ℓ e in earlier m x k u ∙ T .zeros m x k u (λ r at. none r (wider l at))
             zero m x l u none false e =
                 let k = ltb-false m ℓ e in
                 let same : m ≡ ℓ = omega arith in
                 ap (λ (j : ℕ). getD (back (ℓ * w) cells part) (j * w + x) 0) same ∙ here x u
-                ∙ painted .zeros x u (λ r lo hi cov. none r (subst (λ (j : ℕ). AtCell L (ℓ + 1) ws j x r) (sym same) (record { is-fed = omega arith; low = lo; high = hi; covers = cov })))
+                ∙ painted .zeros x u (λ r lo hi cov. none r (record {
+                  is-fed = l;
+                  low = rw same lo;
+                  high = rw same hi;
+                  covers = cov;
+                }))
 
     -- zeros past the fed lines
     pub lines-done : {whole : List ℕ} → fed ≤ ℓ → Filled (fed * w) (length cells) 0 cells whole → LinesWritten L w fed ws now out whole
     lines-done {whole} left F = record {
       names = T .names .names ∙ ap (λ (k : ℕ). named L (lineStart ws k) ws) all;
       long = F .long ∙ T .long;
-      covered = λ m x r at. F .before (m * w + x) (omega (arith, line-room m fed w (at .is-fed), inside m x r at)) ∙ T .covered m x r (wider (omega (arith, at .is-fed)) at);
+      covered = λ m x r at. F .before (m * w + x) (omega (arith, line-room m fed w (at .is-fed), inside m x r at))
+          ∙ T .covered m x r (wider (omega (arith, at .is-fed)) at);
       zeros = λ m x l u none. zero m x l u none (ltb m fed) refl;
     }
       where
@@ -175,7 +199,8 @@ module _ {L w fed : ℕ} {ws : List ℕ} {largest : ℕ} {out : List ℕ} (A : W
         all = omega (arith, T .upto)
 
         inside : (m x r : ℕ) → AtCell L fed ws m x r → x < w
-        inside m x r at = omega (arith, at .covers, A .lines .inside r (omega (arith, at .high, rise (A .lines) (suc m) fed (at .is-fed) (le-refl fed))))
+        inside m x r at =
+            omega (arith, at .covers, A .lines .inside r (omega (arith, at .high, rise (A .lines) (suc m) fed (at .is-fed) (le-refl fed))))
 
         zero : (m x : ℕ) → m < L → x < w → ((r : ℕ) → AtCell L fed ws m x r → ⊥) → (t : Bool) → ltb m fed ≡ t → getD whole (m * w + x) 0 ≡ 0
         zero m x l u none true e =

@@ -23,8 +23,9 @@ use Rattle.frame.specs.Words.{namePlace, lineStart, runStart, runEnd, parentOf,
 use Rattle.frame.proofs.SetLaws.{length-setAll, setAll-other, setAll-at}
 use Rattle.forest.specs.Forest.{rootOf, own, roots, numberIn}
 use Rattle.forest.proofs.ForestLaws.{root-stays, root-le, root-root, root-parent}
+use Rattle.write.specs.declared.NamedRun.{NamedRun}
 use Rattle.write.specs.Writes.{NamesReady, named}
-use Rattle.write.specs.Steps.{Named, NameReady}
+use Rattle.write.specs.Steps.{Named, NameReady, RunNamed}
 
 -- ---- words set again
 
@@ -40,9 +41,12 @@ module _ (place value : ℕ → ℕ) where
   -- the first a places set before change nothing of the first n set
   set-again : (a n : ℕ) (ws : List ℕ) → ((i : ℕ) → i < a → getD (setAll place value a ws) (place i) 0 ≡ value i) → a ≤ n
       → setAll place value n (setAll place value a ws) ≡ setAll place value n ws
-  set-again a n ws h l = le-ind (λ m. setAll place value m (setAll place value a ws) ≡ setAll place value m ws) (set-same a (setAll place value a ws) h) step n l
+  set-again a n ws h l =
+      le-ind (λ m. setAll place value m (setAll place value a ws) ≡ setAll place value m ws)
+      (set-same a (setAll place value a ws) h) step n l
     where
-      step : (m : ℕ) → a ≤ m → setAll place value m (setAll place value a ws) ≡ setAll place value m ws → setAll place value (suc m) (setAll place value a ws) ≡ setAll place value (suc m) ws
+      step : (m : ℕ) → a ≤ m → setAll place value m (setAll place value a ws) ≡ setAll place value m ws
+          → setAll place value (suc m) (setAll place value a ws) ≡ setAll place value (suc m) ws
       step m k e = unfold setAll in ap (λ (vs : List ℕ). set vs (place m) (value m)) e
 
 -- ---- the first a runs named, from ws to now
@@ -59,13 +63,19 @@ module _ {L a : ℕ} {ws now : List ℕ} {c : ℕ} (N : Named L a ws now c) wher
   now-parents = fun-ext (λ r. now-other _ (λ i h q. omega arith))
 
   pub now-runs : storedRun L now ≡ storedRun L ws
-  now-runs = fun-ext (λ r. ap₂ (λ (s : ℕ) (e : ℕ). record { start = s; end = e }) (now-other _ (λ i h q. omega arith)) (now-other _ (λ i h q. omega arith)))
+  now-runs =
+      fun-ext (λ r. ap₂ (λ (s : ℕ) (e : ℕ). record { start = s; end = e })
+      (now-other _ (λ i h q. omega arith)) (now-other _ (λ i h q. omega arith)))
 
   pub now-start : (ℓ : ℕ) → ℓ ≤ L → lineStart now ℓ ≡ lineStart ws ℓ
   now-start ℓ l = now-other ℓ (λ r h q. omega arith)
 
   pub now-ready : (n : ℕ) → NamesReady L n ws → NamesReady L n now
-  now-ready n R = record { room = rw now-long (R .room); parents = λ r h. subst (λ (p : ℕ → ℕ). p r ≤ r) (sym now-parents) (R .parents r h); small = R .small }
+  now-ready n R = record {
+    room = rw now-long (R .room);
+    parents = λ r h. subst (λ (p : ℕ → ℕ). p r ≤ r) (sym now-parents) (R .parents r h);
+    small = R .small;
+  }
 
   module _ (room : L + 1 + stride * a ≤ length ws) where
     now-name : (r : ℕ) → r < a → nameOf L now r ≡ numberIn (parentOf L ws) r
@@ -76,14 +86,17 @@ module _ {L a : ℕ} {ws now : List ℕ} {c : ℕ} (N : Named L a ws now c) wher
     -- more runs named, of which these are the first
     again : (b : ℕ) → a ≤ b → named L b now ≡ named L b ws
     again b l =
-        ap (λ (p : ℕ → ℕ). setAll (namePlace L) (numberIn p) b now) now-parents ∙ ap (λ (vs : List ℕ). setAll (namePlace L) (numberIn (parentOf L ws)) b vs) (N .names)
-        ∙ set-again (namePlace L) (numberIn (parentOf L ws)) a b ws (λ i h. ap (λ (vs : List ℕ). nameOf L vs i) (sym (N .names)) ∙ now-name i h) l
+        ap (λ (p : ℕ → ℕ). setAll (namePlace L) (numberIn p) b now) now-parents
+        ∙ ap (λ (vs : List ℕ). setAll (namePlace L) (numberIn (parentOf L ws)) b vs) (N .names)
+        ∙ set-again (namePlace L) (numberIn (parentOf L ws)) a b ws
+        (λ i h. ap (λ (vs : List ℕ). nameOf L vs i) (sym (N .names)) ∙ now-name i h) l
 
     pub named-then : {b : ℕ} {later : List ℕ} {d : ℕ} → a ≤ b → Named L b now later d → Named L b ws later d
     named-then {b} l M = record { names = M .names ∙ again b l; counted = M .counted ∙ ap (λ (p : ℕ → ℕ). roots p b) now-parents }
 
     pub named-still : Named L a now now c
-    named-still = record { names = N .names ∙ sym (again a (le-refl a)); counted = N .counted ∙ ap (λ (p : ℕ → ℕ). roots p a) (sym now-parents) }
+    named-still =
+        record { names = N .names ∙ sym (again a (le-refl a)); counted = N .counted ∙ ap (λ (p : ℕ → ℕ). roots p a) (sym now-parents) }
 
 -- ---- numbers of runs
 
@@ -146,7 +159,8 @@ module _ {L r : ℕ} {ws : List ℕ} {c : ℕ} (N : NameReady L r ws c) where
         go true t =
             let e = eqb-true up r t in
             ap (λ (k : ℕ). getD (set ws (namePlace L r) (c + 1)) (namePlace L k) 0) e
-            ∙ getD-set-same ws (namePlace L r) (c + 1) 0 (omega arith) ∙ ap (λ (k : ℕ). k + 1) (N .before .counted) ∙ sym (number-root (parentOf L ws) r (sym is-up ∙ e))
+            ∙ getD-set-same ws (namePlace L r) (c + 1) 0 (omega arith) ∙ ap (λ (k : ℕ). k + 1) (N .before .counted)
+            ∙ sym (number-root (parentOf L ws) r (sym is-up ∙ e))
         go false t =
             let ne = eqb-false up r t in
             getD-set-other ws (namePlace L r) (namePlace L up) (c + 1) 0 (λ q. omega (arith, ne))
@@ -164,9 +178,24 @@ module _ {L r : ℕ} {ws : List ℕ} {c : ℕ} (N : NameReady L r ws c) where
     pub count-fits : c + boolByte (eqb up r) < 4294967296
     count-fits = omega (arith, name-count, roots-most (parentOf L ws) (suc r), N .runs .small)
 
-    pub name-turn : {v : ℕ} → v ≡ getD (set ws (namePlace L r) (c + 1)) (namePlace L up) 0 → Named L (suc r) ws (set (set ws (namePlace L r) (c + 1)) (namePlace L r) v) (c + boolByte (eqb up r))
-    name-turn {v} is-v = record { names = set-set ws (namePlace L r) (c + 1) v ∙ ap (λ (k : ℕ). set ws (namePlace L r) k) (is-v ∙ name-read) ∙ whole; counted = name-count }
+    pub name-turn : {start end number : ℕ} → start ≡ getD ws (L + 1 + (stride * r + 0)) 0 → end ≡ runEnd L ws r
+        → number ≡ getD (set ws (namePlace L r) (c + 1)) (namePlace L up) 0
+        → RunNamed L r ws (set (set ws (namePlace L r) (c + 1)) (namePlace L r) number)
+        (record { roots = c + boolByte (eqb up r); start = start; end = end; number = number })
+    name-turn {start} {end} {number} is-start is-end is-number = record {
+      names = record { names = again ∙ whole; counted = name-count };
+      start = is-start ∙ ap (λ (j : ℕ). getD ws j 0) first;
+      end = is-end;
+      number = is-number ∙ name-read;
+    }
       where
+        first : L + 1 + (stride * r + 0) ≡ L + 1 + stride * r
+        first = omega arith
+
+        -- the second store at the place is the one that stands
+        again : set (set ws (namePlace L r) (c + 1)) (namePlace L r) number ≡ set ws (namePlace L r) (numberIn (parentOf L ws) r)
+        again = set-set ws (namePlace L r) (c + 1) number ∙ ap (λ (k : ℕ). set ws (namePlace L r) k) (is-number ∙ name-read)
+
         whole : set ws (namePlace L r) (numberIn (parentOf L ws) r) ≡ named L (suc r) ws
         whole = unfold setAll in ap (λ (vs : List ℕ). set vs (namePlace L r) (numberIn (parentOf L ws) r)) (N .before .names)
 
@@ -182,19 +211,15 @@ module _ {L n : ℕ} {ws : List ℕ} (R : NamesReady L n ws) {r : ℕ} {now : Li
     before = named-still N (omega (arith, space));
   }
 
-  module _ {later : List ℕ} {d : ℕ} (M : Named L (suc r) now later d) where
-    pub next-named : Named L (suc r) ws later d
-    next-named = named-then N (omega (arith, space)) (omega arith) M
+  module _ {later : List ℕ} {run : NamedRun} (M : RunNamed L r now later run) where
+    pub next-named : Named L (suc r) ws later (run .roots)
+    next-named = named-then N (omega (arith, space)) (omega arith) (M .names)
 
-    pub next-room : L + 1 + stride * suc r ≤ length later
-    next-room = rw (now-long next-named) space
+    pub next-start : run .start ≡ runStart L ws r
+    next-start = M .start ∙ ap (λ (f : ℕ → Run). f r .start) (now-runs N)
 
-    -- its start and its end stand, and its name is its number
-    pub next-start : getD later (L + 1 + (stride * r + 0)) 0 ≡ runStart L ws r
-    next-start = let e : L + 1 + (stride * r + 0) ≡ L + 1 + stride * r = omega arith in ap (λ (j : ℕ). getD later j 0) e ∙ ap (λ (f : ℕ → Run). f r .start) (now-runs next-named)
+    pub next-end : run .end ≡ runEnd L ws r
+    next-end = M .end ∙ ap (λ (f : ℕ → Run). f r .end) (now-runs N)
 
-    pub next-end : runEnd L later r ≡ runEnd L ws r
-    next-end = ap (λ (f : ℕ → Run). f r .end) (now-runs next-named)
-
-    pub next-name : nameOf L later r ≡ numberIn (parentOf L ws) r
-    next-name = now-name next-named space r (le-refl (suc r))
+    pub next-number : run .number ≡ numberIn (parentOf L ws) r
+    next-number = M .number ∙ ap (λ (p : ℕ → ℕ). numberIn p r) (now-parents N)

@@ -33,7 +33,8 @@ module _ {a x v : ℕ} {out now : List ℕ} (F : Filled a x v out now) where
 
   -- the loop's end
   pub filled-end : (e : ℕ) → x ≤ max a e → e ≤ x → Filled a e v out now
-  filled-end e h l = record { long = F .long; inside = λ k lo hi. F .inside k lo (omega arith); before = F .before; past = λ k b. go k b (ltb k x) refl }
+  filled-end e h l =
+      record { long = F .long; inside = λ k lo hi. F .inside k lo (omega arith); before = F .before; past = λ k b. go k b (ltb k x) refl }
     where
       go : (k : ℕ) → e ≤ k → (t : Bool) → ltb k x ≡ t → getD now k 0 ≡ getD out k 0
       go k b true t = F .before k (let u = ltb-true k x t in omega arith)
@@ -53,7 +54,8 @@ module _ {a x v : ℕ} {out now : List ℕ} (F : Filled a x v out now) where
       go k lo hi false t = G .inside k (ltb-false k x t) hi
 
 -- cells past e were filled too, fewer than eight; eight zeros from e on are what stood there
-pub painted-back : {s e w x v : ℕ} {out now later : List ℕ} → PaintReady s e w out → e + 8 ≤ w → e ≤ x → x < e + 8 → Filled s x v out now → Filled e (e + 8) 0 now later → Filled s e v out later
+pub painted-back : {s e w x v : ℕ} {out now later : List ℕ} → PaintReady s e w out → e + 8 ≤ w → e ≤ x → x < e + 8 → Filled s x v out now
+    → Filled e (e + 8) 0 now later → Filled s e v out later
 painted-back {s} {e} {w} {x} {v} {out} {now} {later} P room l u F G = record {
   long = G .long ∙ F .long;
   inside = λ k lo hi. G .before k hi ∙ F .inside k lo (omega arith);

@@ -3,7 +3,7 @@
 use mathlib.Core.Path.{_≡_, refl, sym, ap, _∙_, subst}
 use mathlib.Core.Bool.{Bool, true, false}
 use mathlib.Core.List.{List}
-use Prim.Native.Nat.{ℕ, suc, _+_, _*_, _-_, _≤_, _<_}
+use Prim.Native.Nat.{ℕ, suc, _+_, _-_, _≤_, _<_}
 use native.Mathlib.Decide.{le-ind}
 use native.Mathlib.Nat.{le-refl}
 use native.Mathlib.Numerals.{add-one}
@@ -12,12 +12,12 @@ use borrow.Author.Tests.{eqb-true, eqb-false, eq-eqb, ne-eqb}
 use lib.Dec.{eqb}
 use lib.ListN.{length, getD, set, length-set}
 use lib.Seq.{getD-set-same, getD-set-other}
-use Rattle.frame.specs.Memory.{stride}
-use Rattle.frame.specs.Words.{runStart, runEnd, parentOf, nameOf}
+use Rattle.frame.specs.Words.{runStart, runEnd, parentOf}
 use Rattle.forest.specs.Forest.{numberIn}
 use Rattle.write.specs.Writes.{runCells, SizesReady, SizesWritten}
-use Rattle.write.specs.Steps.{Named, NameReady, Filled}
-use Rattle.write.proofs.NameLaws.{number-pos, number-le, named-none, next-asked, next-named, next-room, next-start, next-end, next-name}
+use Rattle.write.specs.declared.NamedRun.{NamedRun}
+use Rattle.write.specs.Steps.{Named, NameReady, RunNamed, Filled}
+use Rattle.write.proofs.NameLaws.{number-pos, number-le, named-none, next-asked, next-named, next-start, next-end, next-number}
 
 -- ---- how many cells the first runs with a number have
 
@@ -62,54 +62,59 @@ module _ {L n : ℕ} {ws : List ℕ} {count : ℕ} (A : SizesReady L n ws count)
       pub size-asked : NameReady L r now c
       size-asked = next-asked (A .runs) (T .names) h
 
-      module _ {later : List ℕ} {d : ℕ} (N : Named L (suc r) now later d) where
-        pub size-room : L + 1 + stride * suc r ≤ length later
-        size-room = next-room (A .runs) (T .names) h N
+      module _ {later : List ℕ} {run : NamedRun} (N : RunNamed L r now later run) where
+        number-is : run .number ≡ numberIn (parentOf L ws) r
+        number-is = next-number (A .runs) (T .names) h N
 
-        module _ {v : ℕ} (is-v : v ≡ nameOf L later r) where
-          number-is : v ≡ numberIn (parentOf L ws) r
-          number-is = is-v ∙ next-name (A .runs) (T .names) h N
+        -- the number is one of those that have a place
+        pub size-place : (1 ≤ run .number) × (run .number - 1 < length sizes)
+        size-place =
+            let lo = number-pos (parentOf L ws) n (A .runs .parents) r h in
+            let hi = number-le (parentOf L ws) n (A .runs .parents) r h in
+            (omega (arith, number-is), omega (arith, number-is, A .groups, T .long))
 
-          -- the number is one of those that have a place
-          pub size-place : (1 ≤ v) × (v - 1 < length sizes)
-          size-place =
-              let lo = number-pos (parentOf L ws) n (A .runs .parents) r h in
-              let hi = number-le (parentOf L ws) n (A .runs .parents) r h in
-              (omega (arith, number-is), omega (arith, number-is, A .groups, T .long))
+        start-is : run .start ≡ runStart L ws r
+        start-is = next-start (A .runs) (T .names) h N
 
-          module _ {s e : ℕ} (is-s : s ≡ getD later (L + 1 + (stride * r + 0)) 0) (is-e : e ≡ runEnd L later r) where
-            start-is : s ≡ runStart L ws r
-            start-is = is-s ∙ next-start (A .runs) (T .names) h N
+        end-is : run .end ≡ runEnd L ws r
+        end-is = next-end (A .runs) (T .names) h N
 
-            end-is : e ≡ runEnd L ws r
-            end-is = is-e ∙ next-end (A .runs) (T .names) h N
+        pub size-upward : run .start ≤ run .end
+        size-upward = rw (start-is, end-is) (A .upward r h)
 
-            pub size-upward : s ≤ e
-            size-upward = rw (start-is, end-is) (A .upward r h)
+        -- its number's place, and the size there with this run's cells
+        abbrev place : ℕ
+        place = run .number - 1
 
-            -- its size with this run's cells
-            added : getD sizes (v - 1) 0 + (e - s) ≡ runCells L ws (suc (v - 1)) (suc r)
-            added = rw (T .counts (v - 1) (omega (arith, size-place, T .long)), start-is, end-is) (omega (arith, cells-on L ws (suc (v - 1)) r (omega (arith, number-is, size-place))))
+        abbrev more : ℕ
+        more = getD sizes (run .number - 1) 0 + (run .end - run .start)
 
-            pub size-fits : getD sizes (v - 1) 0 + (e - s) < 4294967296
-            size-fits = omega (arith, added, cells-rise L ws (suc (v - 1)) (suc r) n h, A .small (suc (v - 1)))
+        added : more ≡ runCells L ws (suc place) (suc r)
+        added =
+            rw (T .counts (run .number - 1) (omega (arith, size-place, T .long)), start-is, end-is)
+            (omega (arith, cells-on L ws (suc (run .number - 1)) r (omega (arith, number-is, size-place))))
 
-            pub size-turn : SizesTo L n ws count later d (set sizes (v - 1) (getD sizes (v - 1) 0 + (e - s))) (r + 1)
-            size-turn = subst (λ (k : ℕ). SizesTo L n ws count later d (set sizes (v - 1) (getD sizes (v - 1) 0 + (e - s))) k) (sym (add-one r)) (record {
-              upto = h;
-              names = next-named (A .runs) (T .names) h N;
-              long = length-set sizes (v - 1) _ ∙ T .long;
-              counts = λ g l. go g l (eqb g (v - 1)) refl;
-            })
-              where
-                go : (g : ℕ) → g < count → (t : Bool) → eqb g (v - 1) ≡ t → getD (set sizes (v - 1) (getD sizes (v - 1) 0 + (e - s))) g 0 ≡ runCells L ws (suc g) (suc r)
-                go g l true t =
-                    let q = eqb-true g (v - 1) t in
-                    ap (λ (k : ℕ). getD (set sizes (v - 1) (getD sizes (v - 1) 0 + (e - s))) k 0) q
-                    ∙ getD-set-same sizes (v - 1) _ 0 (size-place .1) ∙ added ∙ ap (λ (k : ℕ). runCells L ws (suc k) (suc r)) (sym q)
-                go g l false t =
-                    let ne = eqb-false g (v - 1) t in
-                    getD-set-other sizes (v - 1) g _ 0 ne ∙ T .counts g l ∙ sym (cells-off L ws (suc g) r (λ q. ne (omega (arith, q, number-is))))
+        pub size-fits : getD sizes (run .number - 1) 0 + (run .end - run .start) < 4294967296
+        size-fits = omega (arith, added, cells-rise L ws (suc (run .number - 1)) (suc r) n h, A .small (suc (run .number - 1)))
+
+        pub size-turn : SizesTo L n ws count later (run .roots)
+            (set sizes (run .number - 1) (getD sizes (run .number - 1) 0 + (run .end - run .start))) (r + 1)
+        size-turn = subst (λ (k : ℕ). SizesTo L n ws count later (run .roots) (set sizes place more) k) (sym (add-one r)) (record {
+          upto = h;
+          names = next-named (A .runs) (T .names) h N;
+          long = length-set sizes place more ∙ T .long;
+          counts = λ g l. go g l (eqb g place) refl;
+        })
+          where
+            go : (g : ℕ) → g < count → (t : Bool) → eqb g place ≡ t → getD (set sizes place more) g 0 ≡ runCells L ws (suc g) (suc r)
+            go g l true t =
+                let q = eqb-true g place t in
+                ap (λ (k : ℕ). getD (set sizes place more) k 0) q
+                ∙ getD-set-same sizes place more 0 (size-place .1) ∙ added ∙ ap (λ (k : ℕ). runCells L ws (suc k) (suc r)) (sym q)
+            go g l false t =
+                let ne = eqb-false g place t in
+                getD-set-other sizes place g more 0 ne ∙ T .counts g l
+                ∙ sym (cells-off L ws (suc g) r (λ q. ne (omega (arith, q, number-is))))
 
     pub sizes-done : {out : List ℕ} → length out ≡ count → n ≤ r → SizesWritten L n ws now out sizes
     sizes-done {out} e left =

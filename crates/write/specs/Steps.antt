@@ -5,9 +5,10 @@ use mathlib.Core.List.{List}
 use Prim.Native.Nat.{ℕ, suc, _≤_, _<_}
 use lib.ListN.{length, getD}
 use Rattle.frame.specs.Runs.{Run, Covers}
-use Rattle.frame.specs.Words.{lineStart, runEnd, parentOf, storedRun}
+use Rattle.frame.specs.Words.{lineStart, runStart, runEnd, parentOf, storedRun}
 use Rattle.forest.specs.Forest.{roots, numberIn}
-use Rattle.link.specs.Sweeps.{InOrder}
+use Rattle.sweep.specs.Sweeps.{InOrder}
+use Rattle.write.specs.declared.NamedRun.{NamedRun}
 use Rattle.write.specs.Writes.{NamesReady, named}
 
 -- ---- the name of one run
@@ -21,6 +22,13 @@ pub record Named (L n : ℕ) (ws ws′ : List ℕ) (c : ℕ) : Type 0 where
 pub record NameReady (L r : ℕ) (ws : List ℕ) (c : ℕ) : Type 0 where
   pub runs : NamesReady L (suc r) ws
   pub before : Named L r ws ws c
+
+-- run r got its name, and `run` says what it is: the count of roots up to it, its cells, its number
+pub record RunNamed (L r : ℕ) (ws ws′ : List ℕ) (run : NamedRun) : Type 0 where
+  pub names : Named L (suc r) ws ws′ (run .roots)
+  pub start : run .start ≡ runStart L ws r
+  pub end : run .end ≡ runEnd L ws r
+  pub number : run .number ≡ numberIn (parentOf L ws) r
 
 -- ---- cells
 

@@ -11,7 +11,7 @@ use Rattle.frame.specs.Runs.{Covers}
 use Rattle.frame.specs.Memory.{stride}
 use Rattle.frame.specs.Words.{lineStart, runStart, runEnd, parentOf, storedRun, namePlace}
 use Rattle.forest.specs.Forest.{roots, numberIn}
-use Rattle.link.specs.Sweeps.{InOrder}
+use Rattle.sweep.specs.Sweeps.{InOrder}
 
 -- ---- names
 

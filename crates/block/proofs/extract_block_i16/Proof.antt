@@ -1,21 +1,20 @@
 -- `extract_block_i16` meets its contract. The loop's invariant: the first i lines are extracted.
 -- Assumes nothing.
-use mathlib.Core.Bool.{not}
 use mathlib.Core.List.{map}
 use Prim.Native.Nat.{_-_, _≤_}
 use native.Mathlib.Omega.{arith}
 use borrow.Author.Needs.{needs}
 use Rattle.frame.specs.Kinds.{nzℤ}
-use Rattle.block.specs.Blocks.{Block}
+use Rattle.block.specs.Blocks.{Extracts}
 use Rattle.block.proofs.BlockLaws.{block-none, cells-fit, block-room, block-small, block-then, block-end}
 use Rattle.block.proofs.extract_block_i16.Statement.{statement}
 use Rattle.block.proofs.extract_block_i16.Tie as tie
 
 abbrev Inv-loop : tie.InvT-loop
-Inv-loop cells width split words₀ lines fed runs k base n₀ i₀ words n i = (i ≤ k) × Block (not split) width lines fed runs i (map nzℤ cells) words₀ words n
+Inv-loop cells g words₀ fed runs k base count₀ i₀ words count i = (i ≤ k) × Extracts g fed runs i (map nzℤ cells) words₀ words count
 
 abbrev μ-loop : tie.MeasureT-loop
-μ-loop cells width split words₀ lines fed runs k base n₀ i₀ words n i = k - i
+μ-loop cells g words₀ fed runs k base count₀ i₀ words count i = k - i
 
 add-base : tie.Need-add-base Inv-loop μ-loop
 add-base c = search needs
@@ -24,13 +23,13 @@ loop-holds : tie.Need-loop-holds Inv-loop μ-loop
 loop-holds c = (omega arith, block-none _ _ _ _ _ _ _)
 
 mul-a : tie.Need-mul-a Inv-loop μ-loop
-mul-a c = let s = c .before .before .before in record { fits = omega (arith, cells-fit nzℤ (s .args .cells .now) _ _ _ _ _ _ _ (s .pre) (c .before .loop .i) (c .loop-test .taken), s .good) }
+mul-a c = let s = c .before .before .before .before .before in record { fits = omega (arith, cells-fit nzℤ (s .args .cells .now) _ _ _ _ _ _ _ (s .pre) (c .before .before .loop .i) (c .before .loop-test .taken), s .good) }
 
 add-e : tie.Need-add-e Inv-loop μ-loop
-add-e c = let s = c .before .before .before in record { fits = omega (arith, cells-fit nzℤ (s .args .cells .now) _ _ _ _ _ _ _ (s .pre) (c .before .loop .i) (c .loop-test .taken), s .good) }
+add-e c = let s = c .before .before .before .before .before .before in record { fits = omega (arith, cells-fit nzℤ (s .args .cells .now) _ _ _ _ _ _ _ (s .pre) (c .before .before .before .loop .i) (c .before .before .loop-test .taken), s .good) }
 
 mul-extract-line-i16 : tie.Need-mul-extract-line-i16 Inv-loop μ-loop
-mul-extract-line-i16 c = let s = c .before .before .before in record { fits = omega (arith, cells-fit nzℤ (s .args .cells .now) _ _ _ _ _ _ _ (s .pre) (c .before .loop .i) (c .loop-test .taken), s .good) }
+mul-extract-line-i16 c = let s = c .before .before .before .before .before .before in record { fits = omega (arith, cells-fit nzℤ (s .args .cells .now) _ _ _ _ _ _ _ (s .pre) (c .before .before .before .loop .i) (c .before .before .loop-test .taken), s .good) }
 
 sub-extract-line-i16 : tie.Need-sub-extract-line-i16 Inv-loop μ-loop
 sub-extract-line-i16 c = omega arith
@@ -39,42 +38,42 @@ part-extract-line-i16-start : tie.Need-part-extract-line-i16-start Inv-loop μ-l
 part-extract-line-i16-start c = search needs
 
 part-extract-line-i16-end : tie.Need-part-extract-line-i16-end Inv-loop μ-loop
-part-extract-line-i16-end c = let s = c .before .before .before in omega (arith, cells-fit nzℤ (s .args .cells .now) _ _ _ _ _ _ _ (s .pre) (c .before .loop .i) (c .loop-test .taken))
+part-extract-line-i16-end c = let s = c .before .before .before .before .before .before in omega (arith, cells-fit nzℤ (s .args .cells .now) _ _ _ _ _ _ _ (s .pre) (c .before .before .before .loop .i) (c .before .before .loop-test .taken))
 
 mul-extract-line-i16-2 : tie.Need-mul-extract-line-i16-2 Inv-loop μ-loop
 mul-extract-line-i16-2 c =
-    let s = c .before .before .before .before .before in
-    let l = c .before .before .before .loop in
-    let r = block-room nzℤ (s .args .cells .now) _ _ _ _ _ _ _ (s .pre) (l .i) (c .before .before .loop-test .taken) (l .words) (l .n) (l .inv .1) in
+    let s = c .before .before .before .before .before .before .before .before in
+    let l = c .before .before .before .before .before .loop in
+    let r = block-room nzℤ (s .args .cells .now) _ _ _ _ _ _ _ (s .pre) (l .i) (c .before .before .before .before .loop-test .taken) (l .words) (l .count) (l .inv .1) in
     record { fits = omega (arith, r .room, l .inv .1 .long, s .good) }
 
 add-extract-line-i16 : tie.Need-add-extract-line-i16 Inv-loop μ-loop
 add-extract-line-i16 c =
-    let s = c .before .before .before .before .before in
-    let l = c .before .before .before .loop in
-    let r = block-room nzℤ (s .args .cells .now) _ _ _ _ _ _ _ (s .pre) (l .i) (c .before .before .loop-test .taken) (l .words) (l .n) (l .inv .1) in
+    let s = c .before .before .before .before .before .before .before .before in
+    let l = c .before .before .before .before .before .loop in
+    let r = block-room nzℤ (s .args .cells .now) _ _ _ _ _ _ _ (s .pre) (l .i) (c .before .before .before .before .loop-test .taken) (l .words) (l .count) (l .inv .1) in
     record { fits = omega (arith, r .room, l .inv .1 .long, s .good) }
 
 extract-line-i16-requires : tie.Need-extract-line-i16-requires Inv-loop μ-loop
 extract-line-i16-requires c κs =
-    let s = c .before .before .before .before .before in
-    let l = c .before .before .before .loop in
-    block-room nzℤ (s .args .cells .now) _ _ _ _ _ _ _ (s .pre) (l .i) (c .before .before .loop-test .taken) (l .words) (l .n) (l .inv .1)
-
-add-n : tie.Need-add-n Inv-loop μ-loop
-add-n c =
     let s = c .before .before .before .before .before .before .before .before in
-    let l = c .before .before .before .before .before .before .loop in
-    let t = c .before .before .before .before .before .loop-test .taken in
-    let u = block-small nzℤ (s .args .cells .now) _ _ _ _ _ _ _ (s .pre) (l .i) t (l .words) (l .n) (l .inv .1) _ _ (c .before .before .extract-line-i16 .ensures) in
+    let l = c .before .before .before .before .before .loop in
+    block-room nzℤ (s .args .cells .now) _ _ _ _ _ _ _ (s .pre) (l .i) (c .before .before .before .before .loop-test .taken) (l .words) (l .count) (l .inv .1)
+
+add-count : tie.Need-add-count Inv-loop μ-loop
+add-count c =
+    let s = c .before .before .before .before .before .before .before .before .before .before .before in
+    let l = c .before .before .before .before .before .before .before .before .loop in
+    let t = c .before .before .before .before .before .before .before .loop-test .taken in
+    let u = block-small nzℤ (s .args .cells .now) _ _ _ _ _ _ _ (s .pre) (l .i) t (l .words) (l .count) (l .inv .1) _ _ (c .before .before .extract-line-i16 .ensures) in
     record { fits = omega (arith, u) }
 
 cast-words : tie.Need-cast-words Inv-loop μ-loop
 cast-words c =
-    let s = c .before .before .before .before .before .before .before .before in
-    let l = c .before .before .before .before .before .before .loop in
-    let t = c .before .before .before .before .before .loop-test .taken in
-    record { fits = block-small nzℤ (s .args .cells .now) _ _ _ _ _ _ _ (s .pre) (l .i) t (l .words) (l .n) (l .inv .1) _ _ (c .before .before .extract-line-i16 .ensures) }
+    let s = c .before .before .before .before .before .before .before .before .before .before .before in
+    let l = c .before .before .before .before .before .before .before .before .loop in
+    let t = c .before .before .before .before .before .before .before .loop-test .taken in
+    record { fits = block-small nzℤ (s .args .cells .now) _ _ _ _ _ _ _ (s .pre) (l .i) t (l .words) (l .count) (l .inv .1) _ _ (c .before .before .extract-line-i16 .ensures) }
 
 add-words : tie.Need-add-words Inv-loop μ-loop
 add-words c = search needs
@@ -96,10 +95,10 @@ loop-less c = search needs
 
 loop-again : tie.Need-loop-again Inv-loop μ-loop
 loop-again c =
-    let s = c .before .before .before .before .before .before .before .before in
-    let l = c .before .before .before .before .before .before .loop in
-    let t = c .before .before .before .before .before .loop-test .taken in
-    (omega (arith, t), block-then nzℤ (s .args .cells .now) _ _ _ _ _ _ _ (s .pre) (l .i) t (l .words) (l .n) (l .inv .1) _ _ (c .before .before .extract-line-i16 .ensures))
+    let s = c .before .before .before .before .before .before .before .before .before .before .before in
+    let l = c .before .before .before .before .before .before .before .before .loop in
+    let t = c .before .before .before .before .before .before .before .loop-test .taken in
+    (omega (arith, t), block-then nzℤ (s .args .cells .now) _ _ _ _ _ _ _ (s .pre) (l .i) t (l .words) (l .count) (l .inv .1) _ _ (c .before .before .extract-line-i16 .ensures))
 
 same-length : tie.Need-same-length Inv-loop μ-loop
 same-length c = c .before .loop .inv .1 .long
@@ -124,7 +123,7 @@ extract-block-i16-spec =
     mul-extract-line-i16-2
     add-extract-line-i16
     extract-line-i16-requires
-    add-n
+    add-count
     cast-words
     add-words
     add-words-2

@@ -2,7 +2,7 @@
 -- Assumes nothing.
 use mathlib.Core.Path.{ap, _∙_}
 use Rattle.label.specs.Cases.{openNumber}
-use Rattle.label.proofs.RefusedLaws.{positive}
+use Rattle.causes.proofs.CaseLaws.{positive}
 use Rattle.caller.proofs.MadeLaws.{made-accepted, made-refused}
 use borrow.Author.Needs.{needs}
 use Rattle.caller.proofs.make_calls.Statement.{statement}

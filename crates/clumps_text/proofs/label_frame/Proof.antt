@@ -23,14 +23,14 @@ slice-aggregate-label-into-2 c = sym (ready (c .before .before .before .before .
 label-into-requires : tie.Need-label-into-requires
 label-into-requires c κs = ready (c .before .before .before .before .before .before .pre)
 
-slice-reshare-prefix-put-labelled : tie.Need-slice-reshare-prefix-put-labelled
-slice-reshare-prefix-put-labelled c = prefix-room (c .before .before .before .label-into .last .1 .1 .1 .1 .0) _ (c .before .before .before .label-into .kept .1 .1 .1 .1 .0 ∙ ready (c .before .before .before .before .before .before .before .before .before .before .pre) .places)
+slice-reshare-prefix-put-answer : tie.Need-slice-reshare-prefix-put-answer
+slice-reshare-prefix-put-answer c = prefix-room (c .before .before .before .label-into .last .1 .1 .1 .1 .0) _ (c .before .before .before .label-into .kept .1 .1 .1 .1 .0 ∙ ready (c .before .before .before .before .before .before .before .before .before .before .pre) .places)
 
-slice-aggregate-put-labelled : tie.Need-slice-aggregate-put-labelled
-slice-aggregate-put-labelled c = prefix-long _ _ (prefix-room (c .before .before .before .before .label-into .last .1 .1 .1 .1 .0) _ (c .before .before .before .before .label-into .kept .1 .1 .1 .1 .0 ∙ ready (c .before .before .before .before .before .before .before .before .before .before .before .pre) .places))
+slice-aggregate-put-answer : tie.Need-slice-aggregate-put-answer
+slice-aggregate-put-answer c = prefix-long _ _ (prefix-room (c .before .before .before .before .label-into .last .1 .1 .1 .1 .0) _ (c .before .before .before .before .label-into .kept .1 .1 .1 .1 .0 ∙ ready (c .before .before .before .before .before .before .before .before .before .before .before .pre) .places))
 
-put-labelled-requires : tie.Need-put-labelled-requires
-put-labelled-requires c κs = search needs
+put-answer-requires : tie.Need-put-answer-requires
+put-answer-requires c κs = search needs
 
 same-length : tie.Need-same-length
 same-length c = search needs
@@ -39,7 +39,7 @@ same-length-2 : tie.Need-same-length-2
 same-length-2 c = search needs
 
 returns : tie.Need-returns
-returns c = labels-printed _ (prefix-new (c .before .before .before .before .before .before .before .label-into .last .1 .1 .1 .1 .0) _ (c .before .before .before .before .before .before .before .label-into .kept .1 .1 .1 .1 .0 ∙ ready (c .before .before .before .before .before .before .before .before .before .before .before .before .before .before .pre) .places)) (c .before .before .before .before .before .before .before .label-into .ensures) (c .before .before .put-labelled .ensures)
+returns c = labels-printed _ (prefix-new (c .before .before .before .before .before .before .before .label-into .last .1 .1 .1 .1 .0) _ (c .before .before .before .before .before .before .before .label-into .kept .1 .1 .1 .1 .0 ∙ ready (c .before .before .before .before .before .before .before .before .before .before .before .before .before .before .pre) .places)) (c .before .before .before .before .before .before .before .label-into .ensures) (c .before .before .put-answer .ensures)
 
 pub label-frame-spec : {M : Type 1} → statement M
 label-frame-spec =
@@ -50,9 +50,9 @@ label-frame-spec =
     slice-relend-prefix-label-into
     slice-aggregate-label-into-2
     label-into-requires
-    slice-reshare-prefix-put-labelled
-    slice-aggregate-put-labelled
-    put-labelled-requires
+    slice-reshare-prefix-put-answer
+    slice-aggregate-put-answer
+    put-answer-requires
     same-length
     same-length-2
     returns)

@@ -1,68 +1,64 @@
 -- `put_answer` meets its contract.
 -- Assumes nothing.
-use Rattle.clumps_text.specs.Text.{decimal, runsName, joinsName, objectsName, labelsName}
-use Rattle.clumps_text.specs.Output.{answer}
-use Rattle.frame.proofs.OverlayLaws.{adds-then, adds-first}
-use Rattle.clumps_text.proofs.PrintLaws.{adds-line}
+use mathlib.Core.Path.{subst, subst⁻¹}
+use Prim.Native.Nat.{ℕ}
+use Rattle.label.specs.declared.ReadAnswer.{ReadAnswer}
+use Rattle.label.specs.Cases.{readAnswer}
+use Rattle.clumps_text.specs.Output.{refusalText}
+use Rattle.frame.specs.Overlay.{Holds}
+use Rattle.clumps_text.specs.Steps.{answerText}
 use borrow.Author.Needs.{needs}
 use Rattle.clumps_text.proofs.put_answer.Statement.{statement}
 use Rattle.clumps_text.proofs.put_answer.Tie as tie
 
-slice-aggregate-put-line : tie.Need-slice-aggregate-put-line
-slice-aggregate-put-line c = search needs
+enum-known-answer : tie.Need-enum-known-answer
+enum-known-answer c = search needs
 
-put-line-requires : tie.Need-put-line-requires
-put-line-requires c κs = search needs
+put-labelled-text-requires : tie.Need-put-labelled-text-requires
+put-labelled-text-requires c κs = search needs
 
-slice-aggregate-put-line-2 : tie.Need-slice-aggregate-put-line-2
-slice-aggregate-put-line-2 c = search needs
+enum-known-answer-2 : tie.Need-enum-known-answer-2
+enum-known-answer-2 c = search needs
 
-put-line-requires-2 : tie.Need-put-line-requires-2
-put-line-requires-2 c κs = search needs
+number-requires : tie.Need-number-requires
+number-requires c κs = search needs
 
-slice-aggregate-put-line-3 : tie.Need-slice-aggregate-put-line-3
-slice-aggregate-put-line-3 c = search needs
+cast-put-refusal : tie.Need-cast-put-refusal
+cast-put-refusal c = search needs
 
-put-line-requires-3 : tie.Need-put-line-requires-3
-put-line-requires-3 c κs = search needs
-
-slice-aggregate-put-bytes : tie.Need-slice-aggregate-put-bytes
-slice-aggregate-put-bytes c = search needs
-
-put-bytes-requires : tie.Need-put-bytes-requires
-put-bytes-requires c κs = search needs
-
-put-decimals-requires : tie.Need-put-decimals-requires
-put-decimals-requires c κs = search needs
-
-put-requires : tie.Need-put-requires
-put-requires c κs = search needs
+put-refusal-requires : tie.Need-put-refusal-requires
+put-refusal-requires c κs = search needs
 
 same-length : tie.Need-same-length
 same-length c = search needs
 
 returns : tie.Need-returns
-unfolding answer runsName joinsName objectsName labelsName
 returns c =
-    let s = c .before .before .before .before .before .before .before .before .before .before .before .before .before .before .before .before .before .before .before .before .before .before .before .before .before .before .before .before .before .before .args in
-    adds-first
-    (adds-line runsName (decimal (s .runs)) _ (c .before .before .before .before .before .before .before .before .before .before .before .before .before .before .before .before .before .before .before .before .before .before .before .before .before .put-line .ensures)
-    (adds-line joinsName (decimal (s .joins)) _ (c .before .before .before .before .before .before .before .before .before .before .before .before .before .before .before .before .before .before .before .before .put-line2 .ensures)
-    (adds-line objectsName (decimal (s .n)) _ (c .before .before .before .before .before .before .before .before .before .before .before .before .before .before .before .put-line3 .ensures) (adds-then (c .before .before .before .before .before .before .before .before .before .before .put-bytes .ensures) (adds-then (c .before .before .before .before .before .before .put-decimals .ensures) (c .before .before .put .ensures))))))
+    let s = c .before .before .before .before .before .before .before .before .before .args in
+    let p = c .before .before .put-labelled-text in
+    subst⁻¹ (λ (a : ReadAnswer). Holds (answerText (readAnswer a) (s .numbers .now)) (s .out .now) (p .last .0) (p .result)) (c .before .before .before .before .before .answer .given .1) (p .ensures)
+
+same-length-2 : tie.Need-same-length-2
+same-length-2 c = search needs
+
+returns-2 : tie.Need-returns-2
+returns-2 c =
+    let s = c .before .before .before .before .before .before .before .before .before .before .args in
+    let p = c .before .before .put-refusal in
+    subst⁻¹ (λ (a : ReadAnswer). Holds (answerText (readAnswer a) (s .numbers .now)) (s .out .now) (p .last .0) (p .result)) (c .before .before .before .before .before .before .answer2 .given .1)
+    (subst (λ (k : ℕ). Holds (refusalText k) (s .out .now) (p .last .0) (p .result)) (c .before .before .before .number .ensures) (p .ensures))
 
 pub put-answer-spec : {M : Type 1} → statement M
 put-answer-spec =
     tie.close
     (tie.spec
-    slice-aggregate-put-line
-    put-line-requires
-    slice-aggregate-put-line-2
-    put-line-requires-2
-    slice-aggregate-put-line-3
-    put-line-requires-3
-    slice-aggregate-put-bytes
-    put-bytes-requires
-    put-decimals-requires
-    put-requires
+    enum-known-answer
+    put-labelled-text-requires
+    enum-known-answer-2
+    number-requires
+    cast-put-refusal
+    put-refusal-requires
     same-length
-    returns)
+    returns
+    same-length-2
+    returns-2)

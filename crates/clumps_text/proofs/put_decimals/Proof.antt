@@ -21,11 +21,11 @@ abbrev μ-loop : tie.MeasureT-loop
 returns : tie.Need-returns Inv-loop μ-loop
 returns c = decimals-none (c .before .before .before .args .numbers .now) (c .if1 .taken)
 
-shared-slice-read-wide : tie.Need-shared-slice-read-wide Inv-loop μ-loop
-shared-slice-read-wide c = search needs
+shared-slice-read-put-decimal : tie.Need-shared-slice-read-put-decimal Inv-loop μ-loop
+shared-slice-read-put-decimal c = search needs
 
-wide-requires : tie.Need-wide-requires Inv-loop μ-loop
-wide-requires c κs = search needs
+cast-put-decimal : tie.Need-cast-put-decimal Inv-loop μ-loop
+cast-put-decimal c = omega (arith, c .shared-slice-known2 .given 0)
 
 put-decimal-requires : tie.Need-put-decimal-requires Inv-loop μ-loop
 put-decimal-requires c κs = search needs
@@ -36,14 +36,14 @@ loop-holds c = (omega arith, (refl, λ o a p. p))
 put-requires : tie.Need-put-requires Inv-loop μ-loop
 put-requires c κs = search needs
 
-mul-wide : tie.Need-mul-wide Inv-loop μ-loop
-mul-wide c = search needs
+mul-put-decimal : tie.Need-mul-put-decimal Inv-loop μ-loop
+mul-put-decimal c = search needs
 
-shared-slice-read-wide-2 : tie.Need-shared-slice-read-wide-2 Inv-loop μ-loop
-shared-slice-read-wide-2 c = search needs
+shared-slice-read-put-decimal-2 : tie.Need-shared-slice-read-put-decimal-2 Inv-loop μ-loop
+shared-slice-read-put-decimal-2 c = search needs
 
-wide-requires-2 : tie.Need-wide-requires-2 Inv-loop μ-loop
-wide-requires-2 c κs = search needs
+cast-put-decimal-2 : tie.Need-cast-put-decimal-2 Inv-loop μ-loop
+cast-put-decimal-2 c = omega (arith, c .shared-slice-known3 .given (c .before .before .before .before .before .before .before .loop .i))
 
 put-decimal-requires-2 : tie.Need-put-decimal-requires-2 Inv-loop μ-loop
 put-decimal-requires-2 c κs = search needs
@@ -56,9 +56,9 @@ loop-less c = search needs
 
 loop-again : tie.Need-loop-again Inv-loop μ-loop
 loop-again c =
-    let l = c .before .before .before .before .before .before .before .before .before .before .before .loop in
-    let n = c .before .before .before .before .before .before .before .before .before .before .before .before .before .before .before .before .before .before .before .before .before .args .numbers .now in
-    (search needs, (c .before .before .put-decimal2 .kept .0 ∙ (c .before .before .before .before .before .before .before .before .put .kept .0 ∙ l .inv .1 .0), λ o a p. l .inv .1 .1 o a (blanks-turn n (l .i) (c .before .before .before .before .before .before .before .before .before .before .loop-test .taken) (c .before .before .before .wide2 .ensures) (c .before .before .before .before .before .before .before .before .put .ensures) (c .before .before .put-decimal2 .ensures) p)))
+    let l = c .before .before .before .before .before .before .before .before .before .before .loop in
+    let n = c .before .before .before .before .before .before .before .before .before .before .before .before .before .before .before .before .before .before .before .args .numbers .now in
+    (search needs, (c .before .before .put-decimal2 .kept .0 ∙ (c .before .before .before .before .before .before .before .put .kept .0 ∙ l .inv .1 .0), λ o a p. l .inv .1 .1 o a (blanks-turn n (l .i) (c .before .before .before .before .before .before .before .before .before .loop-test .taken) refl (c .before .before .before .before .before .before .before .put .ensures) (c .before .before .put-decimal2 .ensures) p)))
 
 same-length : tie.Need-same-length Inv-loop μ-loop
 same-length c = c .before .loop .inv .1 .0 ∙ c .before .before .before .before .put-decimal .kept .0
@@ -66,8 +66,8 @@ same-length c = c .before .loop .inv .1 .0 ∙ c .before .before .before .before
 returns-2 : tie.Need-returns-2 Inv-loop μ-loop
 returns-2 c =
     let l = c .before .loop in
-    let n = c .before .before .before .before .before .before .before .before .before .before .before .args .numbers .now in
-    decimals-first n (omega arith) (c .before .before .before .before .before .wide .ensures) (c .before .before .before .before .put-decimal .ensures) (l .inv .1 .1 (l .out) (l .to) (blanks-none n (l .i) (c .loop-test .left)))
+    let n = c .before .before .before .before .before .before .before .before .before .before .args .numbers .now in
+    decimals-first n (omega arith) refl (c .before .before .before .before .put-decimal .ensures) (l .inv .1 .1 (l .out) (l .to) (blanks-none n (l .i) (c .loop-test .left)))
 
 pub put-decimals-spec : {M : Type 1} → statement M
 put-decimals-spec =
@@ -76,14 +76,14 @@ put-decimals-spec =
     Inv-loop
     μ-loop
     returns
-    shared-slice-read-wide
-    wide-requires
+    shared-slice-read-put-decimal
+    cast-put-decimal
     put-decimal-requires
     loop-holds
     put-requires
-    mul-wide
-    shared-slice-read-wide-2
-    wide-requires-2
+    mul-put-decimal
+    shared-slice-read-put-decimal-2
+    cast-put-decimal-2
     put-decimal-requires-2
     add-i
     loop-less

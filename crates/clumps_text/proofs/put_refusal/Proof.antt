@@ -1,7 +1,7 @@
 -- `put_refusal` meets its contract.
 -- Assumes nothing.
 use Rattle.clumps_text.specs.Text.{refusedName}
-use Rattle.clumps_text.specs.Output.{refusal}
+use Rattle.clumps_text.specs.Output.{refusalText}
 use Rattle.frame.proofs.OverlayLaws.{adds-first}
 use borrow.Author.Needs.{needs}
 use Rattle.clumps_text.proofs.put_refusal.Statement.{statement}
@@ -17,7 +17,7 @@ same-length : tie.Need-same-length
 same-length c = search needs
 
 returns : tie.Need-returns
-unfolding refusal refusedName
+unfolding refusalText refusedName
 returns c = adds-first (c .before .before .put-line .ensures)
 
 pub put-refusal-spec : {M : Type 1} → statement M

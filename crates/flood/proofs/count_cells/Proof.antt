@@ -8,13 +8,10 @@ use Rattle.flood.proofs.count_cells.Statement.{statement}
 use Rattle.flood.proofs.count_cells.Tie as tie
 
 abbrev Inv-loop : tie.InvT-loop
-Inv-loop numbers fed sizes₀ cell₀ sizes cell = length sizes ≡ length sizes₀
+Inv-loop marks fed sizes₀ cell₀ sizes cell = length sizes ≡ length sizes₀
 
 abbrev μ-loop : tie.MeasureT-loop
-μ-loop numbers fed sizes₀ cell₀ sizes cell = fed - cell
-
-fill-requires : tie.Need-fill-requires Inv-loop μ-loop
-fill-requires c κs = search needs
+μ-loop marks fed sizes₀ cell₀ sizes cell = fed - cell
 
 loop-holds : tie.Need-loop-holds Inv-loop μ-loop
 loop-holds c = search needs
@@ -22,11 +19,20 @@ loop-holds c = search needs
 get-requires : tie.Need-get-requires Inv-loop μ-loop
 get-requires c κs = search needs
 
-cast-count-cell : tie.Need-cast-count-cell Inv-loop μ-loop
-cast-count-cell c = search needs
+cast-less : tie.Need-cast-less Inv-loop μ-loop
+cast-less c = search needs
 
-count-cell-requires : tie.Need-count-cell-requires Inv-loop μ-loop
-count-cell-requires c κs = search needs
+less-requires : tie.Need-less-requires Inv-loop μ-loop
+less-requires c κs = search needs
+
+get-requires-2 : tie.Need-get-requires-2 Inv-loop μ-loop
+get-requires-2 c κs = search needs
+
+wrapping-add-u32-requires : tie.Need-wrapping-add-u32-requires Inv-loop μ-loop
+wrapping-add-u32-requires c κs = search needs
+
+put-requires : tie.Need-put-requires Inv-loop μ-loop
+put-requires c κs = search needs
 
 add-cell : tie.Need-add-cell Inv-loop μ-loop
 add-cell c = search needs
@@ -49,11 +55,13 @@ count-cells-spec =
     (tie.spec
     Inv-loop
     μ-loop
-    fill-requires
     loop-holds
     get-requires
-    cast-count-cell
-    count-cell-requires
+    cast-less
+    less-requires
+    get-requires-2
+    wrapping-add-u32-requires
+    put-requires
     add-cell
     loop-less
     loop-again

@@ -1,47 +1,52 @@
--- `flood::reach_around` is safe and ends. Slices lent keep their length.
+-- `flood::reach_around` is safe and ends.
 -- Assumes nothing.
-use mathlib.Core.Path.{_≡_}
-use lib.ListN.{length}
 use borrow.Author.Needs.{needs}
+use native.Mathlib.Omega.{arith}
 use Prim.Native.Nat.{_-_}
 use Rattle.flood.proofs.reach_around.Statement.{statement}
 use Rattle.flood.proofs.reach_around.Tie as tie
 
 abbrev Inv-loop : tie.InvT-loop
-Inv-loop e structure flags fed numbers₀ queue₀ from cell tail₀ k entry₀ entry-end numbers queue tail entry = (length numbers ≡ length numbers₀) × (length queue ≡ length queue₀)
+Inv-loop e structure flags fed marks₀ head from end₀ cell number entry₀ entry-end marks end entry = Unit {0}
 
 abbrev μ-loop : tie.MeasureT-loop
-μ-loop e structure flags fed numbers₀ queue₀ from cell tail₀ k entry₀ entry-end numbers queue tail entry = entry-end - entry
+μ-loop e structure flags fed marks₀ head from end₀ cell number entry₀ entry-end marks end entry = entry-end - entry
 
 get-requires : tie.Need-get-requires Inv-loop μ-loop
-get-requires c κs = search needs
+get-requires c κs = tt
+
+cast-cell : tie.Need-cast-cell Inv-loop μ-loop
+cast-cell c = search needs
+
+get-requires-2 : tie.Need-get-requires-2 Inv-loop μ-loop
+get-requires-2 c κs = tt
+
+cast-times : tie.Need-cast-times Inv-loop μ-loop
+cast-times c = search needs
+
+times-requires : tie.Need-times-requires Inv-loop μ-loop
+times-requires c κs = tt
 
 loop-holds : tie.Need-loop-holds Inv-loop μ-loop
-loop-holds c = search needs
+loop-holds c = tt
 
 step-to-requires : tie.Need-step-to-requires Inv-loop μ-loop
-step-to-requires c κs = search needs
+step-to-requires c κs = tt
 
 reach-requires : tie.Need-reach-requires Inv-loop μ-loop
-reach-requires c κs = search needs
+reach-requires c κs = tt
 
 add-entry : tie.Need-add-entry Inv-loop μ-loop
-add-entry c = search needs
+add-entry c = omega arith
 
 loop-less : tie.Need-loop-less Inv-loop μ-loop
-loop-less c = search needs
+loop-less c = omega arith
 
 loop-again : tie.Need-loop-again Inv-loop μ-loop
-loop-again c = search needs
-
-same-length : tie.Need-same-length Inv-loop μ-loop
-same-length c = search needs
-
-same-length-2 : tie.Need-same-length-2 Inv-loop μ-loop
-same-length-2 c = search needs
+loop-again c = tt
 
 returns : tie.Need-returns Inv-loop μ-loop
-returns c = search needs
+returns c = tt
 
 pub reach-around-spec : {M : Type 1} → statement M
 reach-around-spec =
@@ -50,12 +55,14 @@ reach-around-spec =
     Inv-loop
     μ-loop
     get-requires
+    cast-cell
+    get-requires-2
+    cast-times
+    times-requires
     loop-holds
     step-to-requires
     reach-requires
     add-entry
     loop-less
     loop-again
-    same-length
-    same-length-2
     returns)

@@ -1,62 +1,55 @@
--- `flood::spread` is safe and ends. Slices lent keep their length.
+-- `flood::spread` is safe and ends.
 -- Assumes nothing.
-use mathlib.Core.Path.{_≡_}
-use lib.ListN.{length}
 use borrow.Author.Needs.{needs}
+use native.Mathlib.Omega.{arith}
 use Prim.Native.Nat.{_-_}
 use Rattle.flood.proofs.spread.Statement.{statement}
 use Rattle.flood.proofs.spread.Tie as tie
 
 abbrev Inv-loop : tie.InvT-loop
-Inv-loop e structure flags fed numbers₀ queue₀ cell n k first tail₀ head₀ head-end numbers queue tail head = (length numbers ≡ length numbers₀) × (length queue ≡ length queue₀)
+Inv-loop e structure flags fed marks₀ cell n end₀ found head₀ head-end marks end head = Unit {0}
 
 abbrev μ-loop : tie.MeasureT-loop
-μ-loop e structure flags fed numbers₀ queue₀ cell n k first tail₀ head₀ head-end numbers queue tail head = head-end - head
+μ-loop e structure flags fed marks₀ cell n end₀ found head₀ head-end marks end head = head-end - head
 
 plus-requires : tie.Need-plus-requires Inv-loop μ-loop
-plus-requires c κs = search needs
+plus-requires c κs = tt
 
 word-requires : tie.Need-word-requires Inv-loop μ-loop
-word-requires c κs = search needs
+word-requires c κs = tt
 
 reach-requires : tie.Need-reach-requires Inv-loop μ-loop
-reach-requires c κs = search needs
+reach-requires c κs = tt
+
+cast-found : tie.Need-cast-found Inv-loop μ-loop
+cast-found c = search needs
 
 times-requires : tie.Need-times-requires Inv-loop μ-loop
-times-requires c κs = search needs
+times-requires c κs = tt
+
+plus-requires-2 : tie.Need-plus-requires-2 Inv-loop μ-loop
+plus-requires-2 c κs = tt
 
 loop-holds : tie.Need-loop-holds Inv-loop μ-loop
-loop-holds c = search needs
+loop-holds c = tt
 
-reach-on-requires : tie.Need-reach-on-requires Inv-loop μ-loop
-reach-on-requires c κs = search needs
+reach-around-requires : tie.Need-reach-around-requires Inv-loop μ-loop
+reach-around-requires c κs = tt
 
 add-head : tie.Need-add-head Inv-loop μ-loop
-add-head c = search needs
+add-head c = omega arith
 
 loop-less : tie.Need-loop-less Inv-loop μ-loop
-loop-less c = search needs
+loop-less c = omega arith
 
 loop-again : tie.Need-loop-again Inv-loop μ-loop
-loop-again c = search needs
+loop-again c = tt
 
-same-length : tie.Need-same-length Inv-loop μ-loop
-same-length c = search needs
-
-same-length-2 : tie.Need-same-length-2 Inv-loop μ-loop
-same-length-2 c = search needs
+plus-requires-3 : tie.Need-plus-requires-3 Inv-loop μ-loop
+plus-requires-3 c κs = tt
 
 returns : tie.Need-returns Inv-loop μ-loop
-returns c = search needs
-
-same-length-3 : tie.Need-same-length-3 Inv-loop μ-loop
-same-length-3 c = search needs
-
-same-length-4 : tie.Need-same-length-4 Inv-loop μ-loop
-same-length-4 c = search needs
-
-returns-2 : tie.Need-returns-2 Inv-loop μ-loop
-returns-2 c = search needs
+returns c = tt
 
 pub spread-spec : {M : Type 1} → statement M
 spread-spec =
@@ -67,15 +60,13 @@ spread-spec =
     plus-requires
     word-requires
     reach-requires
+    cast-found
     times-requires
+    plus-requires-2
     loop-holds
-    reach-on-requires
+    reach-around-requires
     add-head
     loop-less
     loop-again
-    same-length
-    same-length-2
-    returns
-    same-length-3
-    same-length-4
-    returns-2)
+    plus-requires-3
+    returns)

@@ -15,8 +15,6 @@ use Rattle.forest.proofs.ParentLaws.{kept-refl, kept-parents}
 use Rattle.forest.proofs.UnionLaws.{found-half, finds-long}
 use Rattle.forest.proofs.find.Statement.{statement}
 use Rattle.forest.proofs.find.Tie as tie
-use Rattle.forest.proofs.find.Reads as reads
-use Rattle.forest.proofs.find.Lts as lts
 
 abbrev Inv-loop : tie.InvT-loop
 Inv-loop p₀ x at₀ p at = (at ≤ x) × Finds p₀ p x (rootOf (parentIn p) at)

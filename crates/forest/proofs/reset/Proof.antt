@@ -6,8 +6,6 @@ use Rattle.forest.specs.Unions.{Reset}
 use Rattle.forest.proofs.ResetLaws.{reset-none, reset-more, reset-end}
 use Rattle.forest.proofs.reset.Statement.{statement}
 use Rattle.forest.proofs.reset.Tie as tie
-use Rattle.forest.proofs.reset.Reads as reads
-use Rattle.forest.proofs.reset.Lts as lts
 
 abbrev Inv-loop : tie.InvT-loop
 Inv-loop p₀ a b r₀ p r = (a ≤ r) × ((r ≤ max a b) × Reset p₀ p a r)

@@ -11,9 +11,6 @@ use Rattle.forest.proofs.ParentLaws.{parents-fewer, kept-parents}
 use Rattle.forest.proofs.UnionLaws.{Both, both, both-idle, both-joined, one-parent}
 use Rattle.forest.proofs.union.Statement.{statement}
 use Rattle.forest.proofs.union.Tie as tie
-use Rattle.forest.proofs.union.Reads as reads
-use Rattle.forest.proofs.union.Lts as lts
-use Rattle.forest.proofs.find.Reads as find-reads
 
 abbrev start : tie.After-find2 → tie.Start
 start c = c .before .before .before .before .before .before .before .before .before .before

@@ -1,9 +1,9 @@
--- `geo_of` meets its contract: lines that are not too many are counted exactly.
+-- `geo_of` meets its contract: lines are counted up to the limit.
 -- Assumes nothing.
 use borrow.Author.Needs.{needs}
 use denote.Ref.{now}
 use Rattle.geo.proofs.DimsLaws.{rank-limits}
-use Rattle.geo.proofs.GeoLaws.{geo-is}
+use Rattle.geo.proofs.GeoLaws.{measured}
 use Rattle.geo.proofs.geo_of.Statement.{statement}
 use Rattle.geo.proofs.geo_of.Tie as tie
 
@@ -29,7 +29,7 @@ returns : tie.Need-returns
 returns c =
     let s = c .before .before .before .before .before in
     let d = c .before .before .before .leading-dims in
-    geo-is (s .args .rank) (s .args .shape) (now (s .args .structure)) (s .pre) (d .result) (c .before .before .limited-lines .result) (c .before .last-dim .result) (c .left-byte .result)
+    measured (s .args .rank) (s .args .shape) (now (s .args .structure)) (s .pre) (d .result) (c .before .before .limited-lines .result) (c .before .last-dim .result) (c .left-byte .result)
     (d .ensures) (c .before .before .limited-lines .ensures) (c .before .last-dim .ensures) (c .left-byte .ensures)
 
 pub geo-of-spec : {M : Type 1} → statement M

@@ -1,6 +1,6 @@
 -- `label_read_u8` keeps its promise: it is not made, or it is what the reading and its end are.
 -- Assumes nothing.
-use mathlib.Core.Path.{refl, sym, _∙_}
+use mathlib.Core.Path.{sym, _∙_}
 use denote.Ref.{now}
 use lib.ListN.{length}
 use Rattle.record_c.proofs.EarlyLaws.{early-ready}

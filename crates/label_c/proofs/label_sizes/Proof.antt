@@ -1,6 +1,6 @@
 -- `label_sizes` keeps its promise: it is not made, or it is what the size call and its end are.
 -- Assumes nothing.
-use mathlib.Core.Path.{refl, sym, _∙_}
+use mathlib.Core.Path.{sym, _∙_}
 use denote.Ref.{now}
 use lib.ListN.{length}
 use Rattle.record_c.proofs.EarlyLaws.{early-ready}

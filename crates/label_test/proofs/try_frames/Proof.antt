@@ -1,6 +1,6 @@
 -- `label_test::try_frames` is safe and ends.
 -- Assumes nothing.
-use borrow.Author.Needs.{needs}
+use native.Mathlib.Omega.{arith}
 use Prim.Native.Nat.{_-_}
 use Rattle.label_test.proofs.try_frames.Statement.{statement}
 use Rattle.label_test.proofs.try_frames.Tie as tie
@@ -12,22 +12,22 @@ abbrev μ-loop : tie.MeasureT-loop
 μ-loop state₀ i₀ state i = 4000 - i
 
 loop-holds : tie.Need-loop-holds Inv-loop μ-loop
-loop-holds c = search needs
+loop-holds c = tt
 
 try-frame-requires : tie.Need-try-frame-requires Inv-loop μ-loop
-try-frame-requires c κs = search needs
+try-frame-requires c κs = tt
 
 add-i : tie.Need-add-i Inv-loop μ-loop
-add-i c = search needs
+add-i c = omega arith
 
 loop-less : tie.Need-loop-less Inv-loop μ-loop
-loop-less c = search needs
+loop-less c = omega arith
 
 loop-again : tie.Need-loop-again Inv-loop μ-loop
-loop-again c = search needs
+loop-again c = tt
 
 returns : tie.Need-returns Inv-loop μ-loop
-returns c = search needs
+returns c = tt
 
 pub try-frames-spec : {M : Type 1} → statement M
 try-frames-spec =

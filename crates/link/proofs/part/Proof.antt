@@ -1,7 +1,7 @@
 -- `part` meets its contract.
 -- Assumes nothing.
 use borrow.Author.Needs.{needs}
-use Rattle.link.proofs.SignedLaws.{part-fits, part-digit}
+use Rattle.link.proofs.OffsetLaws.{part-fits, part-digit}
 use Rattle.link.proofs.part.Statement.{statement}
 use Rattle.link.proofs.part.Tie as tie
 

@@ -1,8 +1,7 @@
 -- `end_open` meets its contract: by the answer's case.
 -- Assumes nothing.
 use mathlib.Core.Path.{refl}
-use denote.Ref.{now}
-use Rattle.label.proofs.RefusedLaws.{positive}
+use Rattle.causes.proofs.CaseLaws.{positive}
 use Rattle.record_c.proofs.EndLaws.{record-written, record-stands}
 use borrow.Author.Needs.{needs}
 use Rattle.record_c.proofs.end_open.Statement.{statement}

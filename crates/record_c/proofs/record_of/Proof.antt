@@ -1,8 +1,6 @@
 -- `record_of` meets its contract: word by word, and the structure's bytes.
 -- Assumes nothing.
 use Rattle.record_c.specs.Records.{recordOf}
-use denote.Ref.{now}
-use Rattle.record_c.proofs.RecordLaws.{structure-ready}
 use borrow.Author.Needs.{needs}
 use Rattle.record_c.proofs.record_of.Statement.{statement}
 use Rattle.record_c.proofs.record_of.Tie as tie

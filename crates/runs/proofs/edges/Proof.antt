@@ -1,17 +1,17 @@
--- `edges` meets its contract: the places of the digits that are left are the boundaries that are left to write.
+-- `edges` meets its contract: the places of the bits that are left are the boundaries that are left to write.
 -- Assumes nothing.
 use Prim.Native.Nat.{_+_}
 use mathlib.Core.Path.{_≡_, refl}
 use native.Mathlib.Omega.{arith}
 use denote.Ref.{now}
 use Rattle.runs.specs.Boundaries.{places}
-use Rattle.runs.proofs.BoundaryLaws.{Left, left-all, left-same, left-took, left-next, left-none}
+use Rattle.runs.proofs.BoundaryLaws.{Rest, rest-all, rest-same, rest-took, rest-next, rest-none}
 use Rattle.runs.proofs.MaskLaws.{no-place}
 use Rattle.runs.proofs.edges.Statement.{statement}
 use Rattle.runs.proofs.edges.Tie as tie
 
 abbrev Inv-loop : tie.InvT-loop
-Inv-loop words₀ at k e x e₀ k₀ words e' k' = Left words₀ at k (places 64 e x) words k' (places 64 e' x)
+Inv-loop words₀ at k e x e₀ k₀ words e' k' = Rest words₀ at k (places 64 e x) words k' (places 64 e' x)
 
 abbrev μ-loop : tie.MeasureT-loop
 μ-loop words₀ at k e x e₀ k₀ words e' k' = e'
@@ -20,28 +20,33 @@ abbrev μ-loop : tie.MeasureT-loop
 one : (c : tie.After-next-edge Inv-loop μ-loop) →
     let t = c .before .before in
     let a = t .before .before .before .args in
-    Left (now (a .words)) (a .at) (a .k) (places 64 (a .e) (a .x)) (c .next-edge .last .0) (t .before .loop .k + 1) (places 64 (c .next-edge .result) (a .x))
+    Rest (now (a .words)) (a .at) (a .k) (places 64 (a .e) (a .x)) (c .next-edge .last .0) (t .before .loop .k + 1)
+    (places 64 (c .next-edge .result) (a .x))
 one c =
     let t = c .before .before in
-    left-took (t .before .before .before .args .x) (t .before .loop .e) (c .next-edge .result) (t .before .loop .inv) (c .next-edge .ensures)
+    let l = t .before .loop in
+    rest-took (t .before .before .before .args .x) (l .e) (c .next-edge .result) (l .inv) (c .next-edge .ensures)
 
 two : (c : tie.After-next-edge2 Inv-loop μ-loop) →
     let t = c .before .before .before .before .before .before .before in
     let a = t .before .before .before .args in
-    Left (now (a .words)) (a .at) (a .k) (places 64 (a .e) (a .x)) (c .next-edge2 .last .0) (t .before .loop .k + 2) (places 64 (c .next-edge2 .result) (a .x))
+    Rest (now (a .words)) (a .at) (a .k) (places 64 (a .e) (a .x)) (c .next-edge2 .last .0) (t .before .loop .k + 2)
+    (places 64 (c .next-edge2 .result) (a .x))
 two c =
     let o = c .before .before .before .before .before in
     let t = o .before .before in
     let k : t .before .loop .k + 1 + 1 ≡ t .before .loop .k + 2 = omega arith in
-    left-same refl k refl (left-took (t .before .before .before .args .x) (o .next-edge .result) (c .next-edge2 .result) (one o) (c .next-edge2 .ensures))
+    rest-same refl k refl
+    (rest-took (t .before .before .before .args .x) (o .next-edge .result) (c .next-edge2 .result) (one o) (c .next-edge2 .ensures))
 
 loop-holds : tie.Need-loop-holds Inv-loop μ-loop
-loop-holds c = left-all _ _ _ _
+loop-holds c = rest-all _ _ _ _
 
 next-edge-requires : tie.Need-next-edge-requires Inv-loop μ-loop
 next-edge-requires c κs =
     let t = c .before in
-    left-next (t .before .before .before .args .x) (t .before .loop .e) (t .loop-test .taken) (t .before .loop .inv) (t .before .before .before .pre)
+    let s = t .before .before .before in
+    rest-next (s .args .x) (t .before .loop .e) (omega (arith, t .loop-test .taken)) (t .before .loop .inv) (s .pre)
 
 add-result : tie.Need-add-result Inv-loop μ-loop
 add-result c =
@@ -56,7 +61,8 @@ same-length c = one (c .before .before .before) .long
 returns : tie.Need-returns Inv-loop μ-loop
 returns c =
     let o = c .before .before .before in
-    left-none (left-same refl refl (no-place (o .next-edge .result) (o .before .before .before .before .before .args .x) (c .if1 .taken)) (one o))
+    let s = o .before .before .before .before .before in
+    rest-none (rest-same refl refl (no-place (o .next-edge .result) (s .args .x) (c .if1 .taken)) (one o))
 
 add-next-edge : tie.Need-add-next-edge Inv-loop μ-loop
 add-next-edge c =
@@ -69,7 +75,7 @@ next-edge-requires-2 : tie.Need-next-edge-requires-2 Inv-loop μ-loop
 next-edge-requires-2 c κs =
     let o = c .before .before .before .before in
     let s = o .before .before .before .before .before in
-    left-next (s .args .x) (o .next-edge .result) (c .before .if1 .left) (one o) (s .pre)
+    rest-next (s .args .x) (o .next-edge .result) (omega (arith, c .before .if1 .left)) (one o) (s .pre)
 
 add-k : tie.Need-add-k Inv-loop μ-loop
 add-k c =
@@ -89,7 +95,10 @@ same-length-2 : tie.Need-same-length-2 Inv-loop μ-loop
 same-length-2 c = c .before .loop .inv .long
 
 returns-2 : tie.Need-returns-2 Inv-loop μ-loop
-returns-2 c = left-none (left-same refl refl (no-place (c .before .loop .e) (c .before .before .before .args .x) (c .loop-test .left)) (c .before .loop .inv))
+returns-2 c =
+    let l = c .before .loop in
+    let e = no-place (l .e) (c .before .before .before .args .x) (omega (arith, c .loop-test .left)) in
+    rest-none (rest-same refl refl e (l .inv))
 
 pub edges-spec : {M : Type 1} → statement M
 edges-spec =

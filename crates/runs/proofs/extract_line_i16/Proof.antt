@@ -1,29 +1,29 @@
 -- `extract_line_i16` meets its contract: after each turn the boundaries from column x on are left to be written.
 -- Assumes nothing.
 use Prim.Native.Nat.{_-_}
-use mathlib.Core.Bool.{not}
 use mathlib.Core.List.{map}
 use native.Mathlib.Omega.{arith}
 use lib.ListN.{length, length-map}
 use denote.Ref.{now}
 use Rattle.frame.specs.Kinds.{nzℤ}
 use Rattle.runs.proofs.PutLaws.{extracted-long}
-use Rattle.runs.proofs.BlockLaws.{Going, going-begin, going-fits, going-turn, going-end}
+use Rattle.runs.proofs.ChunkLaws.{Going, going-begin, going-fits, going-turn, going-end}
 use Rattle.runs.proofs.extract_line_i16.Statement.{statement}
 use Rattle.runs.proofs.extract_line_i16.Tie as tie
 
 abbrev Inv-loop : tie.InvT-loop
-Inv-loop line split words₀ at n k₀ carry₀ x₀ words k carry x = Going (not split) (map nzℤ line) words₀ at words k carry x
+Inv-loop line left words₀ at n k₀ carry₀ x₀ words k carry x = Going left (map nzℤ line) words₀ at words k carry x
 
 abbrev μ-loop : tie.MeasureT-loop
-μ-loop line split words₀ at n k₀ carry₀ x₀ words k carry x = length line - x
+μ-loop line left words₀ at n k₀ carry₀ x₀ words k carry x = length line - x
 
 extracted : tie.Need-returns Inv-loop μ-loop
 extracted c =
     let m = c .before .before .before .before in
     let t = m .before in
     let n = length-map (now (t .before .before .before .args .line)) nzℤ in
-    going-end (t .before .loop .inv) (m .mask-i162 .result) (m .mask-i162 .ensures) (omega (arith, t .loop-test .left, t .before .loop .inv .inside)) (c .before .before .block-boundaries2 .ensures)
+    going-end (t .before .loop .inv) (m .mask-i162 .result) (m .mask-i162 .ensures)
+    (omega (arith, t .loop-test .left, t .before .loop .inv .inside)) (c .before .before .chunk-boundaries2 .ensures)
 
 loop-holds : tie.Need-loop-holds Inv-loop μ-loop
 loop-holds c = going-begin
@@ -38,8 +38,8 @@ mask-i16-requires c κs =
     let n = length-map (now (c .before .before .before .args .line)) nzℤ in
     record { inside = omega (arith, c .before .loop .inv .inside); many = omega (arith, c .loop-test .taken) }
 
-block-boundaries-requires : tie.Need-block-boundaries-requires Inv-loop μ-loop
-block-boundaries-requires c κs =
+chunk-boundaries-requires : tie.Need-chunk-boundaries-requires Inv-loop μ-loop
+chunk-boundaries-requires c κs =
     let l = c .before .before .before in
     going-fits (l .loop .inv) (c .before .mask-i16 .result) (c .before .mask-i16 .ensures) (l .before .before .pre)
 
@@ -60,7 +60,8 @@ loop-again c =
     let t = c .before .before .before .before .before in
     let m = c .before .before .before .before .mask-i16 in
     let n = length-map (now (t .before .before .before .args .line)) nzℤ in
-    going-turn (t .before .loop .inv) (m .result) (m .ensures) (omega (arith, t .loop-test .taken, t .before .loop .inv .inside)) (c .before .before .block-boundaries .ensures)
+    going-turn (t .before .loop .inv) (m .result) (m .ensures) (omega (arith, t .loop-test .taken, t .before .loop .inv .inside))
+    (c .before .before .chunk-boundaries .ensures)
 
 sub-mask-i16 : tie.Need-sub-mask-i16 Inv-loop μ-loop
 sub-mask-i16 c =
@@ -72,8 +73,8 @@ mask-i16-requires-2 c κs =
     let n = length-map (now (c .before .before .before .args .line)) nzℤ in
     record { inside = omega (arith, c .before .loop .inv .inside); many = omega (arith, c .loop-test .left) }
 
-block-boundaries-requires-2 : tie.Need-block-boundaries-requires-2 Inv-loop μ-loop
-block-boundaries-requires-2 c κs =
+chunk-boundaries-requires-2 : tie.Need-chunk-boundaries-requires-2 Inv-loop μ-loop
+chunk-boundaries-requires-2 c κs =
     let l = c .before .before .before in
     going-fits (l .loop .inv) (c .before .mask-i162 .result) (c .before .mask-i162 .ensures) (l .before .before .pre)
 
@@ -92,12 +93,12 @@ extract-line-i16-spec =
     loop-holds
     sub-loop
     mask-i16-requires
-    block-boundaries-requires
+    chunk-boundaries-requires
     add-x
     loop-less
     loop-again
     sub-mask-i16
     mask-i16-requires-2
-    block-boundaries-requires-2
+    chunk-boundaries-requires-2
     same-length
     returns)

@@ -3,7 +3,6 @@
 use native.Mathlib.Omega.{arith}
 use borrow.Author.Needs.{needs}
 use lib.Count.{trailing-le}
-use borrow.Author.Needs.{needs}
 use Rattle.runs.proofs.lowest.Statement.{statement}
 use Rattle.runs.proofs.lowest.Tie as tie
 

@@ -26,7 +26,12 @@ unfolding maskOf
 loop-holds c = (omega arith, refl, λ l h. refl)
 
 mask8-requires : tie.Need-mask8-requires Inv-loop μ-loop
-mask8-requires c κs = record { flags = map nz (c .before .before .before .args .b); weighed = c .before .before .weigh .ensures; inside = c .loop-test .taken; eight = c .before .loop .inv .1 }
+mask8-requires c κs = record {
+  flags = map nz (c .before .before .before .args .b);
+  weighed = c .before .before .weigh .ensures;
+  inside = c .loop-test .taken;
+  eight = c .before .loop .inv .1;
+}
 
 cast-m : tie.Need-cast-m Inv-loop μ-loop
 cast-m c =
@@ -47,7 +52,9 @@ loop-less c = omega arith
 loop-again : tie.Need-loop-again Inv-loop μ-loop
 loop-again c =
     let o = c .before .before in
-    (omega arith, omega arith, λ l h. byte-turn l (o .loop .j) (o .loop .m) (c .mask8 .result) (omega arith) (o .loop .inv .2 l h) (c .mask8 .ensures l h))
+    let v = o .loop in
+    let r = c .mask8 in
+    (omega arith, omega arith, λ l h. byte-turn l (v .j) (v .m) (r .result) (omega arith) (v .inv .2 l h) (r .ensures l h))
 
 returns : tie.Need-returns Inv-loop μ-loop
 returns c =

@@ -9,8 +9,8 @@ use borrow.Author.Needs.{needs}
 use Rattle.runs.proofs.mask_f32.Statement.{statement}
 use Rattle.runs.proofs.mask_f32.Tie as tie
 
-block-f32-requires : tie.Need-block-f32-requires
-block-f32-requires c κs = search needs
+chunk-f32-requires : tie.Need-chunk-f32-requires
+chunk-f32-requires c κs = search needs
 
 mask64-requires : tie.Need-mask64-requires
 mask64-requires c κs = search needs
@@ -18,7 +18,7 @@ mask64-requires c κs = search needs
 returns : tie.Need-returns
 returns c =
     let a = c .before .before .before .before .args in
-    let b = c .before .block-f32 in
+    let b = c .before .chunk-f32 in
     c .mask64 .ensures ∙ shows-mask (map nzF (now (a .line))) (a .x) (b .result) (b .ensures)
 
 pad-f32-requires : tie.Need-pad-f32-requires
@@ -37,7 +37,7 @@ pub mask-f32-spec : {M : Type 1} → statement M
 mask-f32-spec =
     tie.close
     (tie.spec
-    block-f32-requires
+    chunk-f32-requires
     mask64-requires
     returns
     pad-f32-requires

@@ -9,9 +9,8 @@ use lib.Bits.{and-le-r}
 use lib.ListN.{set}
 use denote.Ref.{now}
 use Rattle.runs.specs.Boundaries.{boundaryAt, places}
-use Rattle.runs.proofs.BoundaryLaws.{left-all, left-same, left-room}
+use Rattle.runs.proofs.BoundaryLaws.{rest-all, rest-same, rest-room}
 use Rattle.runs.proofs.MaskLaws.{next-place}
-use borrow.Author.Needs.{needs}
 use Rattle.runs.proofs.next_edge.Statement.{statement}
 use Rattle.runs.proofs.next_edge.Tie as tie
 
@@ -22,7 +21,8 @@ edge-requires : tie.Need-edge-requires
 edge-requires c κs =
     let a = c .before .before .before .args in
     let p = c .before .before .before .pre in
-    left-room (a .x) (left-same refl refl (next-place (a .e) (a .x) (λ z. omega arith) (omega arith)) (left-all (now (a .words)) (a .at) (a .k) (places 64 (a .e) (a .x)))) (p .fits)
+    let all = rest-all (now (a .words)) (a .at) (a .k) (places 64 (a .e) (a .x)) in
+    rest-room (a .x) (rest-same refl refl (next-place (a .e) (a .x) (λ z. omega arith) (omega arith)) all) (p .fits)
 
 sub-result : tie.Need-sub-result
 sub-result c = search needs
@@ -38,7 +38,8 @@ returns c =
     record {
       place = a .x + trailingZeros 64 (a .e);
       lowest = next-place (a .e) (a .x) (λ z. omega arith) (omega arith);
-      written = c .before .before .edge .ensures ∙ ap (set (now (a .words)) (boundaryAt (a .at) (a .k))) (c .before .before .before .lowest .ensures);
+      written = c .before .before .edge .ensures
+          ∙ ap (set (now (a .words)) (boundaryAt (a .at) (a .k))) (c .before .before .before .lowest .ensures);
       less = omega (arith, and-le-r (a .e) (a .e - 1));
     }
 

@@ -8,18 +8,18 @@ use borrow.Author.Needs.{needs}
 use lib.Ieee.{nan}
 use denote.Ref.{now}
 use Rattle.frame.specs.Kinds.{nzF}
-use Rattle.runs.proofs.FillLaws.{Filled, fill-none, fill-turn, fill-all, flag-of, nz-byte}
+use Rattle.runs.proofs.CopyLaws.{Copied, copy-none, copy-turn, copy-all, flag-of, nz-byte}
 use Rattle.runs.proofs.pad_f32.Statement.{statement}
 use Rattle.runs.proofs.pad_f32.Tie as tie
 
 abbrev Inv-loop : tie.InvT-loop
-Inv-loop line x n b₀ i₀ b i = (i ≤ n) × Filled (map nzF line) x b i
+Inv-loop line x n b₀ i₀ b i = (i ≤ n) × Copied (map nzF line) x b i
 
 abbrev μ-loop : tie.MeasureT-loop
 μ-loop line x n b₀ i₀ b i = n - i
 
 loop-holds : tie.Need-loop-holds Inv-loop μ-loop
-loop-holds c = (omega arith, fill-none _ _)
+loop-holds c = (omega arith, copy-none _ _)
 
 add-nz-f32 : tie.Need-add-nz-f32 Inv-loop μ-loop
 add-nz-f32 c = search needs
@@ -50,10 +50,12 @@ loop-again c =
     let l = c .before .before .before .loop in
     let a = c .before .before .before .before .before .args in
     let flag = c .nz-f32 .ensures ∙ flag-of nzF (now (a .line)) (a .x + l .i) nan (omega arith) in
-    (omega arith, fill-turn _ (omega arith) (nz-byte (c .nz-f32 .result) ∙ flag) (l .inv .1))
+    (omega arith, copy-turn _ (omega arith) (nz-byte (c .nz-f32 .result) ∙ flag) (l .inv .1))
 
 returns : tie.Need-returns Inv-loop μ-loop
-returns c = fill-all nzF (now (c .before .before .before .args .line)) (c .before .before .before .pre) (omega arith) (c .before .loop .inv .1)
+returns c =
+    let s = c .before .before .before in
+    copy-all nzF (now (s .args .line)) (s .pre) (omega arith) (c .before .loop .inv .1)
 
 pub pad-f32-spec : {M : Type 1} → statement M
 pad-f32-spec =

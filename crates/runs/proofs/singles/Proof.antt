@@ -1,4 +1,4 @@
--- `singles` meets its contract: the places of the digits that are left are the runs that are left to write.
+-- `singles` meets its contract: the places of the bits that are left are the runs that are left to write.
 -- Assumes nothing.
 use Prim.Native.Nat.{ℕ, _+_, _-_, _^_, _<_}
 use native.Mathlib.Nat.{lt-of-le-of-lt}
@@ -10,39 +10,43 @@ use lib.Bits.{bitAnd, and-le-l, and-le-r}
 use lib.ListN.{set}
 use denote.Ref.{now}
 use Rattle.runs.specs.Boundaries.{boundaryAt, places, alone}
-use Rattle.runs.proofs.BoundaryLaws.{Left, left-all, left-same, left-one, left-room, left-none}
+use Rattle.runs.proofs.BoundaryLaws.{Rest, rest-all, rest-same, rest-one, rest-room, rest-none}
 use Rattle.runs.proofs.MaskLaws.{next-alone, none-alone}
 use Rattle.runs.proofs.singles.Statement.{statement}
 use Rattle.runs.proofs.singles.Tie as tie
 
 abbrev Inv-loop : tie.InvT-loop
-Inv-loop words₀ at k m x m₀ k₀ words m' k' = (m' < 2 ^ 64) × Left words₀ at k (alone (places 64 m x)) words k' (alone (places 64 m' x))
+Inv-loop words₀ at k m x m₀ k₀ words m' k' = (m' < 2 ^ 64) × Rest words₀ at k (alone (places 64 m x)) words k' (alone (places 64 m' x))
 
 abbrev μ-loop : tie.MeasureT-loop
 μ-loop words₀ at k m x m₀ k₀ words m' k' = m'
 
--- in the body: the lowest set digit is the next run
+-- in the body: the lowest set bit is the next run
 next : (c : tie.In-loop Inv-loop μ-loop) →
     let a = c .before .before .before .args in
     let v = c .before .loop in
     let p = a .x + trailingZeros 64 (v .m) in
-    Left (now (a .words)) (a .at) (a .k) (alone (places 64 (a .m) (a .x))) (v .words) (v .k) (p ∷ ((p + 1) ∷ alone (places 64 (bitAnd (v .m) (v .m - 1)) (a .x))))
-next c = left-same refl refl (next-alone (c .before .loop .m) (c .before .before .before .args .x) (c .loop-test .taken) (c .before .loop .inv .0)) (c .before .loop .inv .1)
+    Rest (now (a .words)) (a .at) (a .k) (alone (places 64 (a .m) (a .x))) (v .words) (v .k)
+    (p ∷ ((p + 1) ∷ alone (places 64 (bitAnd (v .m) (v .m - 1)) (a .x))))
+next c =
+    let l = c .before .loop in
+    rest-same refl refl (next-alone (l .m) (c .before .before .before .args .x) (c .loop-test .taken) (l .inv .0)) (l .inv .1)
 
 -- its start is written
 second : (c : tie.After-edge Inv-loop μ-loop) →
     let t = c .before .before .before in
     let a = t .before .before .before .args in
     let v = t .before .loop in
-    Left (now (a .words)) (a .at) (a .k) (alone (places 64 (a .m) (a .x))) (c .edge .last .0) (v .k + 1)
+    Rest (now (a .words)) (a .at) (a .k) (alone (places 64 (a .m) (a .x))) (c .edge .last .0) (v .k + 1)
     ((a .x + trailingZeros 64 (v .m) + 1) ∷ alone (places 64 (bitAnd (v .m) (v .m - 1)) (a .x)))
 second c =
     let t = c .before .before .before in
-    let p = ap (set (t .before .loop .words) (boundaryAt (t .before .before .before .args .at) (t .before .loop .k))) (c .before .before .lowest .ensures) in
-    left-same (sym (c .edge .ensures ∙ p)) refl refl (left-one (next t))
+    let l = t .before .loop in
+    let p = ap (set (l .words) (boundaryAt (t .before .before .before .args .at) (l .k))) (c .before .before .lowest .ensures) in
+    rest-same (sym (c .edge .ensures ∙ p)) refl refl (rest-one (next t))
 
 loop-holds : tie.Need-loop-holds Inv-loop μ-loop
-loop-holds c = (omega arith, left-all _ _ _ _)
+loop-holds c = (omega arith, rest-all _ _ _ _)
 
 lowest-requires : tie.Need-lowest-requires Inv-loop μ-loop
 lowest-requires c κs = c .before .before .before .pre .short
@@ -50,7 +54,7 @@ lowest-requires c κs = c .before .before .before .pre .short
 edge-requires : tie.Need-edge-requires Inv-loop μ-loop
 edge-requires c κs =
     let t = c .before .before in
-    left-room (t .before .before .before .args .x) (next t) (t .before .before .before .pre)
+    rest-room (t .before .before .before .args .x) (next t) (t .before .before .before .pre)
 
 add-edge : tie.Need-add-edge Inv-loop μ-loop
 add-edge c =
@@ -68,7 +72,7 @@ add-edge-2 c =
 edge-requires-2 : tie.Need-edge-requires-2 Inv-loop μ-loop
 edge-requires-2 c κs =
     let t = c .before .before .before .before .before .before in
-    left-room (t .before .before .before .args .x) (second (c .before .before .before)) (t .before .before .before .pre)
+    rest-room (t .before .before .before .args .x) (second (c .before .before .before)) (t .before .before .before .pre)
 
 sub-m : tie.Need-sub-m Inv-loop μ-loop
 sub-m c = omega (arith, c .before .before .before .before .before .before .before .before .before .loop-test .taken)
@@ -91,14 +95,18 @@ loop-again c =
     let o = c .before .before .before .before .before .before in
     let v = o .before .before .before .before .loop in
     let k : v .k + 1 + 1 ≡ v .k + 2 = omega arith in
-    let p = ap (λ (n : ℕ). set (o .edge .last .0) (boundaryAt (o .before .before .before .before .before .before .args .at) (v .k + 1)) (n + 1)) (o .before .before .lowest .ensures) in
-    (lt-of-le-of-lt (and-le-l (v .m) (v .m - 1)) (v .inv .0), left-same (sym (c .before .before .edge2 .ensures ∙ p)) k refl (left-one (second o)))
+    let at = o .before .before .before .before .before .before .args .at in
+    let p = ap (λ (n : ℕ). set (o .edge .last .0) (boundaryAt at (v .k + 1)) (n + 1)) (o .before .before .lowest .ensures) in
+    let more = rest-same (sym (c .before .before .edge2 .ensures ∙ p)) k refl (rest-one (second o)) in
+    (lt-of-le-of-lt (and-le-l (v .m) (v .m - 1)) (v .inv .0), more)
 
 same-length : tie.Need-same-length Inv-loop μ-loop
 same-length c = c .before .loop .inv .1 .long
 
 returns : tie.Need-returns Inv-loop μ-loop
-returns c = left-none (left-same refl refl (none-alone (c .before .loop .m) (c .before .before .before .args .x) (c .loop-test .left)) (c .before .loop .inv .1))
+returns c =
+    let l = c .before .loop in
+    rest-none (rest-same refl refl (none-alone (l .m) (c .before .before .before .args .x) (c .loop-test .left)) (l .inv .1))
 
 pub singles-spec : {M : Type 1} → statement M
 singles-spec =

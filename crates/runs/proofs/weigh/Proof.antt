@@ -47,7 +47,8 @@ unfolding nz
 loop-again c =
     let l = c .before .loop in
     let b = c .before .before .args .t1 in
-    (omega arith, length-set (l .t) (l .i) _ ∙ l .inv .1, weigh-turn (map nz b) (l .t) (l .i) (nz (getD b (l .i) 0)) (omega arith) (flag-at b (l .i)) (l .inv .2))
+    let more = weigh-turn (map nz b) (l .t) (l .i) (nz (getD b (l .i) 0)) (omega arith) (flag-at b (l .i)) (l .inv .2) in
+    (omega arith, length-set (l .t) (l .i) _ ∙ l .inv .1, more)
 
 returns : tie.Need-returns Inv-loop μ-loop
 returns c = λ k p. c .before .loop .inv .2 k (omega arith)

@@ -1,6 +1,6 @@
 -- `no_run` meets its contract: the difference is taken modulo 2^64.
 -- Assumes nothing.
-use mathlib.Core.Path.{_≡_, sym, ap, _∙_}
+use mathlib.Core.Path.{ap, _∙_}
 use Prim.Native.Nat.{ℕ}
 use native.Mathlib.Omega.{arith}
 use lib.Dec.{leb}
@@ -8,19 +8,13 @@ use borrow.Author.Needs.{needs}
 use Rattle.sound.proofs.LineLaws.{one-comparison}
 use Rattle.sound.proofs.no_run.Statement.{statement}
 use Rattle.sound.proofs.no_run.Tie as tie
-use Rattle.sound.proofs.no_run.Reads as reads
-use Rattle.sound.proofs.no_run.Lts as lts
-use Rattle.std.proofs.num.wrapping_sub_usize.Reads as wrapping-sub-usize-reads
 
--- src/lib.rt:99:37
 add-wrapping-sub-usize : tie.Need-add-wrapping-sub-usize
 add-wrapping-sub-usize c = search needs
 
--- src/lib.rt:99:5
 wrapping-sub-usize-requires : tie.Need-wrapping-sub-usize-requires
 wrapping-sub-usize-requires c κs = search needs
 
--- src/lib.rt:95:1
 returns : tie.Need-returns
 returns c left is =
     let s = c .before .args in

@@ -11,10 +11,10 @@ use Rattle.sound.proofs.words_sound.Statement.{statement}
 use Rattle.sound.proofs.words_sound.Tie as tie
 
 abbrev Inv-loop : tie.InvT-loop
-Inv-loop words lines width left fed runs joins most a₀ nonroots₀ i₀ a nonroots i = LinesTo lines width left words fed i a nonroots
+Inv-loop words g fed runs joins most a₀ nonroots₀ i₀ a nonroots i = LinesTo (g .lines) (g .width) (g .left) words fed i a nonroots
 
 abbrev μ-loop : tie.MeasureT-loop
-μ-loop words lines width left fed runs joins most a₀ nonroots₀ i₀ a nonroots i = fed - i
+μ-loop words g fed runs joins most a₀ nonroots₀ i₀ a nonroots i = fed - i
 
 shared-slice-read-if1 : tie.Need-shared-slice-read-if1 Inv-loop μ-loop
 shared-slice-read-if1 c = search needs
@@ -44,7 +44,7 @@ add-if2 : tie.Need-add-if2 Inv-loop μ-loop
 add-if2 c =
     let l = c .before .before in
     let s = c .before .before .before .before .before .before .before in
-    omega (arith, c .shared-slice-known3 .given (l .loop .i), l .loop .inv .sound .last, l .before .most-runs .ensures, most-runs-le (s .args .left) (s .args .width), s .pre .short)
+    omega (arith, c .shared-slice-known3 .given (l .loop .i), l .loop .inv .sound .last, l .before .most-runs .ensures, most-runs-le (s .args .g .left) (s .args .g .width), s .pre .short)
 
 returns-2 : tie.Need-returns-2 Inv-loop μ-loop
 returns-2 c = let l = c .before .before .before in answer-false _ _ _ _ _ _ _ (line-wrong _ _ _ _ (l .before .most-runs .ensures) (l .loop .inv) (omega arith) (c .if2 .taken))
@@ -52,13 +52,13 @@ returns-2 c = let l = c .before .before .before in answer-false _ _ _ _ _ _ _ (l
 line-sound-requires : tie.Need-line-sound-requires Inv-loop μ-loop
 line-sound-requires c κs = let l = c .before .before .before in line-ready _ _ _ _ (l .before .most-runs .ensures) (l .loop .inv) (omega arith) (c .if2 .left) (c .before .before .before .before .before .before .before .before .pre)
 
-enum-known-k : tie.Need-enum-known-k Inv-loop μ-loop
-enum-known-k c = search needs
+enum-known-more : tie.Need-enum-known-more Inv-loop μ-loop
+enum-known-more c = search needs
 
 loop-again : tie.Need-loop-again Inv-loop μ-loop
 loop-again c =
     let l = c .before .before .before .before .before .before .before in
-    lines-more _ _ _ _ (l .before .most-runs .ensures) (l .loop .inv) (omega arith) _ (c .before .before .before .before .if2 .left) (subst (LineFound _ _ _ _ _ _) (c .before .k .given .1) (c .before .before .before .line-sound .ensures))
+    lines-more _ _ _ _ (l .before .most-runs .ensures) (l .loop .inv) (omega arith) _ (c .before .before .before .before .if2 .left) (subst (LineFound _ _ _ _ _ _) (c .before .more .given .1) (c .before .before .before .line-sound .ensures))
 
 -- no more of them than runs
 add-nonroots : tie.Need-add-nonroots Inv-loop μ-loop
@@ -98,7 +98,7 @@ words-sound-spec =
     add-if2
     returns-2
     line-sound-requires
-    enum-known-k
+    enum-known-more
     add-nonroots
     add-i
     loop-less

@@ -1,38 +1,37 @@
--- `label_impl_u16_u16` meets its promise: it is refused with the number that its check finds, and else filled and numbered.
+-- `label_impl_u16_u16` meets its promise: it is refused with the number that its check finds, and else fed whole and numbered.
 -- Assumes nothing.
 use borrow.Author.Needs.{needs}
 use denote.Ref.{now}
 use Rattle.frame.specs.Kinds.{nz, u16}
 use Rattle.label.specs.Opening.{openRecord}
-use Rattle.whole.proofs.WholeLaws.{whole-refused, whole-ready, whole-filled, whole-done}
+use Rattle.whole.proofs.WholeLaws.{whole-refused, whole-ready, whole-fed, whole-done}
 use Rattle.whole.proofs.label_impl_u16_u16.Statement.{statement}
 use Rattle.whole.proofs.label_impl_u16_u16.Tie as tie
 
 frame-check-requires : tie.Need-frame-check-requires
 frame-check-requires c κs = search needs
 
-enum-known-cause : tie.Need-enum-known-cause
-enum-known-cause c = search needs
+enum-known-check : tie.Need-enum-known-check
+enum-known-check c = search needs
 
 enum-told : tie.Need-enum-told
 enum-told c = search needs
 
-fill-u16-requires : tie.Need-fill-u16-requires
-fill-u16-requires c κs =
-    let e = c .before in
-    let a = e .before .before .before .before .before .before .before .before .args in
-    whole-ready u16 nz (now (a .shape)) (now (a .structure)) (now (a .words)) (now (a .cells)) (now (a .out)) _ (e .before .before .frame-check .ensures) (e .enum-told .given .1)
+feed-all-u16-requires : tie.Need-feed-all-u16-requires
+feed-all-u16-requires c κs =
+    let a = c .before .before .before .before .before .before .before .before .before .before .args in
+    record { shape = now (a .shape); ready = whole-ready u16 nz (now (a .shape)) (now (a .structure)) (now (a .words)) (now (a .cells)) (now (a .out)) _ (c .before .before .before .before .frame-check .ensures) (c .before .before .enum-told .given .1) }
 
 number-u16-requires : tie.Need-number-u16-requires
 number-u16-requires c κs =
-    let e = c .before .before .before .before .before .before in
-    let a = e .before .before .before .before .before .before .before .before .args in
-    record { session = openRecord (now (a .shape)) (now (a .structure)); filled = whole-filled u16 nz (now (a .shape)) (now (a .structure)) (now (a .words)) (now (a .cells)) (now (a .out)) _ (e .before .before .frame-check .ensures) (e .enum-told .given .1) _ _ (c .before .before .before .before .fill-u16 .ensures) }
+    let a = c .before .before .before .before .before .before .before .before .before .before .before .before .before .before .before .args in
+    let all = c .before .before .before .before .feed-all-u16 .ensures (now (a .shape)) (whole-ready u16 nz (now (a .shape)) (now (a .structure)) (now (a .words)) (now (a .cells)) (now (a .out)) _ (c .before .before .before .before .before .before .before .before .before .frame-check .ensures) (c .before .before .before .before .before .before .before .enum-told .given .1)) in
+    record { session = openRecord (now (a .shape)) (now (a .structure)); fed = whole-fed u16 nz (now (a .shape)) (now (a .structure)) (now (a .words)) (now (a .cells)) (now (a .out)) _ (c .before .before .before .before .before .before .before .before .before .frame-check .ensures) (c .before .before .before .before .before .before .before .enum-told .given .1) _ _ all }
 
 returns : tie.Need-returns
 returns c =
     let a = c .before .before .before .before .before .before .before .before .before .args in
-    whole-refused u16 nz (now (a .shape)) (now (a .structure)) (now (a .words)) (now (a .cells)) (now (a .out)) _ (c .before .before .before .frame-check .ensures) _ (c .before .cause .given .1)
+    whole-refused u16 nz (now (a .shape)) (now (a .structure)) (now (a .words)) (now (a .cells)) (now (a .out)) _ (c .before .before .before .frame-check .ensures) _ (c .before .check .given .1)
 
 same-length : tie.Need-same-length
 same-length c = search needs
@@ -42,19 +41,21 @@ same-length-2 c = search needs
 
 returns-2 : tie.Need-returns-2
 returns-2 c =
-    let e = c .before .before .before .before .before .before .before .before .before .before .before in
-    let a = e .before .before .before .before .before .before .before .before .args in
-    let filled = c .before .before .before .before .before .before .before .before .before .fill-u16 .ensures in
-    whole-done u16 nz (now (a .shape)) (now (a .structure)) (now (a .words)) (now (a .cells)) (now (a .out)) _ (e .before .before .frame-check .ensures) (e .enum-told .given .1) _ _ filled _ _ _ (c .before .before .before .before .number-u16 .ensures (openRecord (now (a .shape)) (now (a .structure))) (whole-filled u16 nz (now (a .shape)) (now (a .structure)) (now (a .words)) (now (a .cells)) (now (a .out)) _ (e .before .before .frame-check .ensures) (e .enum-told .given .1) _ _ filled))
+    let a = c .before .before .before .before .before .before .before .before .before .before .before .before .before .before .before .before .before .before .before .before .args in
+    let found = c .before .before .before .before .before .before .before .before .before .before .before .before .before .before .frame-check .ensures in
+    let passed = c .before .before .before .before .before .before .before .before .before .before .before .before .enum-told .given .1 in
+    let all = c .before .before .before .before .before .before .before .before .before .feed-all-u16 .ensures (now (a .shape)) (whole-ready u16 nz (now (a .shape)) (now (a .structure)) (now (a .words)) (now (a .cells)) (now (a .out)) _ found passed) in
+    let record-is = openRecord (now (a .shape)) (now (a .structure)) in
+    whole-done u16 nz (now (a .shape)) (now (a .structure)) (now (a .words)) (now (a .cells)) (now (a .out)) _ found passed _ _ all _ _ _ (c .before .before .before .before .number-u16 .ensures record-is (whole-fed u16 nz (now (a .shape)) (now (a .structure)) (now (a .words)) (now (a .cells)) (now (a .out)) _ found passed _ _ all))
 
 pub label-impl-u16-u16-spec : {M : Type 1} → statement M
 label-impl-u16-u16-spec =
     tie.close
     (tie.spec
     frame-check-requires
-    enum-known-cause
+    enum-known-check
     enum-told
-    fill-u16-requires
+    feed-all-u16-requires
     number-u16-requires
     returns
     same-length

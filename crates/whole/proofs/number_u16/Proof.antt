@@ -1,12 +1,12 @@
 -- `number_u16` meets its contract: n above the kind's largest is refused, and else the numbers are those that a reading promises.
 -- Assumes nothing.
+use borrow.Author.Needs.{needs}
 use mathlib.Core.Path.{_≡_, refl}
 use Prim.Native.Nat.{ℕ}
-use borrow.Author.Needs.{needs}
 use denote.Ref.{now}
 use lib.ListN.{length}
 use Rattle.frame.specs.Kinds.{u16, largest}
-use Rattle.whole.proofs.NumberingLaws.{filled-joins, number-ready, number-ten, number-done}
+use Rattle.whole.proofs.NumberingLaws.{fed-joins, number-ready, number-ten, number-done}
 use Rattle.whole.proofs.number_u16.Statement.{statement}
 use Rattle.whole.proofs.number_u16.Tie as tie
 
@@ -16,15 +16,15 @@ unfolding largest
 most = refl
 
 sub-n : tie.Need-sub-n
-sub-n c = let s = c .before .before .before in filled-joins (s .pre .session) (s .args .filled) (now (s .args .words)) (length (now (s .args .out))) (s .pre .filled)
+sub-n c = let s = c .before .before .before in fed-joins (s .pre .session) (s .args .g) (s .args .frame) (now (s .args .words)) (length (now (s .args .out))) (s .pre .fed)
 
 returns : tie.Need-returns
-returns c s F = let a = c .before .before .before .before .args in number-ten s (a .filled) (now (a .words)) u16 (now (a .out)) F (rw (← most) (c .if1 .taken))
+returns c = let a = c .before .before .before .before .args in λ s F. number-ten s (a .g) (a .frame) (now (a .words)) u16 (now (a .out)) F (rw (← most) (c .if1 .taken))
 
 write-block-u16-requires : tie.Need-write-block-u16-requires
 write-block-u16-requires c κs =
     let s = c .before .before .before .before .before .before in
-    number-ready (s .pre .session) (s .args .filled) (now (s .args .words)) (length (now (s .args .out))) (s .pre .filled) u16 (rw (← most) (c .before .before .if1 .left))
+    number-ready (s .pre .session) (s .args .g) (s .args .frame) (now (s .args .words)) (length (now (s .args .out))) (s .pre .fed) u16 (rw (← most) (c .before .before .if1 .left))
 
 same-length : tie.Need-same-length
 same-length c = search needs
@@ -33,10 +33,11 @@ same-length-2 : tie.Need-same-length-2
 same-length-2 c = search needs
 
 returns-2 : tie.Need-returns-2
-returns-2 c s F =
+returns-2 c =
     let a = c .before .before .before .before .before .before .before .before .before .before .before .args in
     let w = c .before .before .before .before .write-block-u16 in
-    number-done s (a .filled) (now (a .words)) u16 (now (a .out)) F (rw (← most) (c .before .before .before .before .before .before .before .if1 .left)) (w .last .0) (w .last .1 .1 .1 .1 .0) (w .ensures)
+    λ s F. number-done s (a .g) (a .frame) (now (a .words)) u16 (now (a .out)) F (rw (← most) (c .before .before .before .before .before .before .before .if1 .left)) (w .last .0) (w .last .1 .1 .1 .0) (w .ensures)
 
 pub number-u16-spec : {M : Type 1} → statement M
-number-u16-spec = tie.close (tie.spec sub-n returns write-block-u16-requires same-length same-length-2 returns-2)
+number-u16-spec =
+    tie.close (tie.spec sub-n returns write-block-u16-requires same-length same-length-2 returns-2)

@@ -42,4 +42,5 @@ returns : tie.Need-returns Inv-loop μ-loop
 returns c = filled-end (c .before .loop .inv .1) _ (omega arith) (omega arith)
 
 pub eight-u32-spec : {M : Type 1} → statement M
-eight-u32-spec = tie.close (tie.spec Inv-loop μ-loop loop-holds add-out mul-out slice-write-out add-i loop-less loop-again same-length returns)
+eight-u32-spec =
+    tie.close (tie.spec Inv-loop μ-loop loop-holds add-out mul-out slice-write-out add-i loop-less loop-again same-length returns)

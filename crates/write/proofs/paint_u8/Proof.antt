@@ -47,7 +47,8 @@ same-length c = search needs
 returns : tie.Need-returns Inv-loop μ-loop
 returns c =
     let l = c .before .before .before .before .before .loop .inv in
-    painted-back (c .before .before .before .before .before .before .before .before .pre) (omega arith) (omega arith) (l .1 .0) (l .1 .1) (c .before .before .eight-u82 .ensures)
+    painted-back (c .before .before .before .before .before .before .before .before .pre) (omega arith) (omega arith) (l .1 .0) (l .1 .1)
+    (c .before .before .eight-u82 .ensures)
 
 same-length-2 : tie.Need-same-length-2 Inv-loop μ-loop
 same-length-2 c = search needs

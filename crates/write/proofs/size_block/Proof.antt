@@ -5,15 +5,15 @@ use Prim.Native.Nat.{_-_}
 use native.Mathlib.Omega.{arith}
 use borrow.Author.Needs.{needs}
 use Rattle.write.proofs.NameLaws.{now-long}
-use Rattle.write.proofs.SizeLaws.{SizesTo, sizes-begin, size-asked, size-room, size-place, size-upward, size-fits, size-turn, sizes-done}
+use Rattle.write.proofs.SizeLaws.{SizesTo, sizes-begin, size-asked, size-place, size-upward, size-fits, size-turn, sizes-done}
 use Rattle.write.proofs.size_block.Statement.{statement}
 use Rattle.write.proofs.size_block.Tie as tie
 
 abbrev Inv-loop : tie.InvT-loop
-Inv-loop words₀ lines runs sizes₀ n named₀ r₀ words sizes named r = SizesTo lines runs words₀ n words named sizes r
+Inv-loop words₀ lines runs sizes₀ places named₀ r₀ words sizes named r = SizesTo lines runs words₀ places words named sizes r
 
 abbrev μ-loop : tie.MeasureT-loop
-μ-loop words₀ lines runs sizes₀ n named₀ r₀ words sizes named r = runs - r
+μ-loop words₀ lines runs sizes₀ places named₀ r₀ words sizes named r = runs - r
 
 fill-u32-requires : tie.Need-fill-u32-requires Inv-loop μ-loop
 fill-u32-requires c κs = search needs
@@ -27,64 +27,50 @@ name-run-requires c κs =
     let s = i .before .before .before .before .before .before .before .before in
     size-asked (s .pre) (i .before .loop .inv) (i .loop-test .taken)
 
-word-requires : tie.Need-word-requires Inv-loop μ-loop
-word-requires c κs =
+sub-sizes : tie.Need-sub-sizes Inv-loop μ-loop
+sub-sizes c =
     let n = c .before .before .before in
     let i = n .before .before in
     let s = i .before .before .before .before .before .before .before .before in
-    (omega arith, size-room (s .pre) (i .before .loop .inv) (i .loop-test .taken) (n .name-run .ensures))
+    size-upward (s .pre) (i .before .loop .inv) (i .loop-test .taken) (n .name-run .ensures)
 
-word-requires-2 : tie.Need-word-requires-2 Inv-loop μ-loop
-word-requires-2 c κs =
-    let n = c .before .before .before .before .before in
+cast-sizes : tie.Need-cast-sizes Inv-loop μ-loop
+cast-sizes c =
+    let n = c .before .before .before in
     let i = n .before .before in
     let s = i .before .before .before .before .before .before .before .before in
-    (omega arith, size-room (s .pre) (i .before .loop .inv) (i .loop-test .taken) (n .name-run .ensures))
+    omega (arith, size-fits (s .pre) (i .before .loop .inv) (i .loop-test .taken) (n .name-run .ensures))
 
-word-requires-3 : tie.Need-word-requires-3 Inv-loop μ-loop
-word-requires-3 c κs =
-    let n = c .before .before .before .before .before .before .before in
+cast-sizes-2 : tie.Need-cast-sizes-2 Inv-loop μ-loop
+cast-sizes-2 c = search needs
+
+sub-sizes-2 : tie.Need-sub-sizes-2 Inv-loop μ-loop
+sub-sizes-2 c =
+    let n = c .before .before .before .before in
     let i = n .before .before in
     let s = i .before .before .before .before .before .before .before .before in
-    (omega arith, size-room (s .pre) (i .before .loop .inv) (i .loop-test .taken) (n .name-run .ensures))
-
-cast-g : tie.Need-cast-g Inv-loop μ-loop
-cast-g c = search needs
-
-sub-g : tie.Need-sub-g Inv-loop μ-loop
-sub-g c =
-    let n = c .before .before .before .before .before .before .before .before in
-    let i = n .before .before in
-    let s = i .before .before .before .before .before .before .before .before in
-    size-place (s .pre) (i .before .loop .inv) (i .loop-test .taken) (n .name-run .ensures) (c .word3 .ensures) .0
-
-sub-sizes : tie.Need-sub-sizes Inv-loop μ-loop
-sub-sizes c =
-    let n = c .before .before .before .before .before .before .before .before in
-    let i = n .before .before in
-    let s = i .before .before .before .before .before .before .before .before in
-    size-upward (s .pre) (i .before .loop .inv) (i .loop-test .taken) (n .name-run .ensures) (c .word3 .ensures) (c .before .before .before .before .word .ensures) (c .before .before .word2 .ensures)
+    size-place (s .pre) (i .before .loop .inv) (i .loop-test .taken) (n .name-run .ensures) .0
 
 mul-sizes : tie.Need-mul-sizes Inv-loop μ-loop
 mul-sizes c =
-    let n = c .before .before .before .before .before .before .before .before in
+    let n = c .before .before .before .before in
     let i = n .before .before in
     let s = i .before .before .before .before .before .before .before .before in
-    record { fits = omega (arith, size-place (s .pre) (i .before .loop .inv) (i .loop-test .taken) (n .name-run .ensures) (c .word3 .ensures)) }
+    record { fits = omega (arith, size-place (s .pre) (i .before .loop .inv) (i .loop-test .taken) (n .name-run .ensures)) }
 
 slice-read-sizes : tie.Need-slice-read-sizes Inv-loop μ-loop
 slice-read-sizes c =
-    let n = c .before .before .before .before .before .before .before .before .before in
+    let n = c .before .before .before .before .before in
     let i = n .before .before in
     let s = i .before .before .before .before .before .before .before .before in
-    size-place (s .pre) (i .before .loop .inv) (i .loop-test .taken) (n .name-run .ensures) (c .before .word3 .ensures) .1
+    size-place (s .pre) (i .before .loop .inv) (i .loop-test .taken) (n .name-run .ensures) .1
 
 add-sizes : tie.Need-add-sizes Inv-loop μ-loop
 add-sizes c =
-    let n = c .before .before .before .before .before .before .before .before .before in
+    let n = c .before .before .before .before .before in
     let i = n .before .before in
     let s = i .before .before .before .before .before .before .before .before in
-    record { fits = size-fits (s .pre) (i .before .loop .inv) (i .loop-test .taken) (n .name-run .ensures) (c .before .word3 .ensures) (c .before .before .before .before .before .word .ensures) (c .before .before .before .word2 .ensures) }
+    record { fits = size-fits (s .pre) (i .before .loop .inv) (i .loop-test .taken) (n .name-run .ensures) }
 
 slice-write-sizes : tie.Need-slice-write-sizes Inv-loop μ-loop
 slice-write-sizes c = slice-read-sizes c
@@ -97,10 +83,10 @@ loop-less c = search needs
 
 loop-again : tie.Need-loop-again Inv-loop μ-loop
 loop-again c =
-    let n = c .before .before .before .before .before .before .before .before .before in
+    let n = c .before .before .before .before .before in
     let i = n .before .before in
     let s = i .before .before .before .before .before .before .before .before in
-    size-turn (s .pre) (i .before .loop .inv) (i .loop-test .taken) (n .name-run .ensures) (c .before .word3 .ensures) (c .before .before .before .before .before .word .ensures) (c .before .before .before .word2 .ensures)
+    size-turn (s .pre) (i .before .loop .inv) (i .loop-test .taken) (n .name-run .ensures)
 
 same-length : tie.Need-same-length Inv-loop μ-loop
 same-length c = now-long (c .before .loop .inv .names)
@@ -109,7 +95,8 @@ same-length-2 : tie.Need-same-length-2 Inv-loop μ-loop
 same-length-2 c = c .before .loop .inv .long
 
 returns : tie.Need-returns Inv-loop μ-loop
-returns c = sizes-done (c .before .before .before .before .before .before .before .before .pre) (c .before .loop .inv) refl (c .loop-test .left)
+returns c =
+    sizes-done (c .before .before .before .before .before .before .before .before .pre) (c .before .loop .inv) refl (c .loop-test .left)
 
 pub size-block-spec : {M : Type 1} → statement M
 size-block-spec =
@@ -120,12 +107,10 @@ size-block-spec =
     fill-u32-requires
     loop-holds
     name-run-requires
-    word-requires
-    word-requires-2
-    word-requires-3
-    cast-g
-    sub-g
     sub-sizes
+    cast-sizes
+    cast-sizes-2
+    sub-sizes-2
     mul-sizes
     slice-read-sizes
     add-sizes

@@ -10,31 +10,46 @@ use Rattle.write.proofs.write_block_u16.Statement.{statement}
 use Rattle.write.proofs.write_block_u16.Tie as tie
 
 abbrev Inv-loop : tie.InvT-loop
-Inv-loop words₀ lines width fed out₀ named₀ line₀ words out named line = LinesTo lines width fed words₀ out₀ words named out line
+Inv-loop words₀ g fed out₀ named₀ line₀ words out named line = LinesTo (g .lines) (g .width) fed words₀ out₀ words named out line
 
 abbrev μ-loop : tie.MeasureT-loop
-μ-loop words₀ lines width fed out₀ named₀ line₀ words out named line = fed - line
+μ-loop words₀ g fed out₀ named₀ line₀ words out named line = fed - line
 
 loop-holds : tie.Need-loop-holds Inv-loop μ-loop
 loop-holds c = lines-begin (c .before .before .pre)
 
 mul-at : tie.Need-mul-at Inv-loop μ-loop
-mul-at c = record { fits = omega (arith, lent-room (c .before .before .before .before .pre) (c .before .loop .inv) (c .loop-test .taken)) }
+mul-at c =
+    let i = c .before in
+    let s = i .before .before .before .before in
+    record { fits = omega (arith, lent-room (s .pre) (i .before .loop .inv) (i .loop-test .taken)) }
 
 mul-write-line-u16 : tie.Need-mul-write-line-u16 Inv-loop μ-loop
-mul-write-line-u16 c = record { fits = omega (arith, lent-room (c .before .before .before .before .before .pre) (c .before .before .loop .inv) (c .before .loop-test .taken)) }
+mul-write-line-u16 c =
+    let i = c .before .before in
+    let s = i .before .before .before .before in
+    record { fits = omega (arith, lent-room (s .pre) (i .before .loop .inv) (i .loop-test .taken)) }
 
 sub-write-line-u16 : tie.Need-sub-write-line-u16 Inv-loop μ-loop
-sub-write-line-u16 c = omega (arith, lent-room (c .before .before .before .before .before .pre) (c .before .before .loop .inv) (c .before .loop-test .taken))
+sub-write-line-u16 c =
+    let i = c .before .before in
+    let s = i .before .before .before .before in
+    omega (arith, lent-room (s .pre) (i .before .loop .inv) (i .loop-test .taken))
 
 part-write-line-u16-start : tie.Need-part-write-line-u16-start Inv-loop μ-loop
-part-write-line-u16-start c = omega (arith, lent-room (c .before .before .before .before .before .pre) (c .before .before .loop .inv) (c .before .loop-test .taken))
+part-write-line-u16-start c =
+    let i = c .before .before in
+    let s = i .before .before .before .before in
+    omega (arith, lent-room (s .pre) (i .before .loop .inv) (i .loop-test .taken))
 
 part-write-line-u16-end : tie.Need-part-write-line-u16-end Inv-loop μ-loop
 part-write-line-u16-end c = search needs
 
 write-line-u16-requires : tie.Need-write-line-u16-requires Inv-loop μ-loop
-write-line-u16-requires c κs = line-asked (c .before .before .before .before .before .before .pre) (c .before .before .before .loop .inv) (c .before .before .loop-test .taken)
+write-line-u16-requires c κs =
+    let i = c .before .before .before in
+    let s = i .before .before .before .before in
+    line-asked (s .pre) (i .before .loop .inv) (i .loop-test .taken)
 
 add-line : tie.Need-add-line Inv-loop μ-loop
 add-line c = search needs
@@ -43,22 +58,30 @@ loop-less : tie.Need-loop-less Inv-loop μ-loop
 loop-less c = search needs
 
 loop-again : tie.Need-loop-again Inv-loop μ-loop
-loop-again c = lines-turn (c .before .before .before .before .before .before .before .before .before .before .before .pre) (c .before .before .before .before .before .before .before .before .loop .inv) (c .before .before .before .before .before .before .before .loop-test .taken) (c .before .before .before .before .write-line-u16 .ensures)
+loop-again c =
+    let i = c .before .before .before .before .before .before .before .before in
+    let s = i .before .before .before .before in
+    lines-turn (s .pre) (i .before .loop .inv) (i .loop-test .taken) (c .before .before .before .before .write-line-u16 .ensures)
 
 mul-fill-u16 : tie.Need-mul-fill-u16 Inv-loop μ-loop
-mul-fill-u16 c = record { fits = omega (arith, fed-room (c .before .before .before .before .before .pre) (c .before .before .loop .inv)) }
+mul-fill-u16 c =
+    let l = c .before .before .before in
+    record { fits = omega (arith, fed-room (l .before .before .before .pre) (l .loop .inv)) }
 
 fill-u16-requires : tie.Need-fill-u16-requires Inv-loop μ-loop
 fill-u16-requires c κs = search needs
 
 same-length : tie.Need-same-length Inv-loop μ-loop
-same-length c = now-long (c .before .before .before .before .before .loop .inv .names)
+same-length c = now-long (c .before .before .before .before .before .before .loop .inv .names)
 
 same-length-2 : tie.Need-same-length-2 Inv-loop μ-loop
-same-length-2 c = c .before .before .fill-u16 .ensures .long ∙ c .before .before .before .before .before .loop .inv .long
+same-length-2 c = c .before .before .fill-u16 .ensures .long ∙ c .before .before .before .before .before .before .loop .inv .long
 
 returns : tie.Need-returns Inv-loop μ-loop
-returns c = lines-done (c .before .before .before .before .before .before .before .before .pre) (c .before .before .before .before .before .loop .inv) (c .before .before .before .before .loop-test .left) (c .before .before .fill-u16 .ensures)
+returns c =
+    let o = c .before .before .before .before .before in
+    let l = o .before in
+    lines-done (l .before .before .before .pre) (l .loop .inv) (o .loop-test .left) (c .before .before .fill-u16 .ensures)
 
 pub write-block-u16-spec : {M : Type 1} → statement M
 write-block-u16-spec =

@@ -1,74 +1,40 @@
--- `read_check` meets its contract: each condition is tested where those before it do not hold.
+-- `read_check` meets its contract: a sound record is checked further, by its geometry.
 -- Assumes nothing.
-use mathlib.Core.Path.{sym, _∙_}
-use native.Mathlib.Omega.{arith}
 use borrow.Author.Needs.{needs}
-use borrow.Author.Tests.{not-true, not-false}
 use denote.Ref.{now}
-use Rattle.label.proofs.SoundLaws.{sound-right}
-use Rattle.label.proofs.CheckLaws.{read-gets-6}
-use Rattle.label.proofs.RecordGeometry.{geo-size, geo-small, geo-gets-9, geo-gets-10, geo-reads}
+use Rattle.causes.proofs.CaseLaws.{failed-some, passed-none}
 use Rattle.label.proofs.FitLaws.{joins-fit}
+use Rattle.label.proofs.CheckLaws.{read-unsound, found-sound, read-asked, read-found}
 use Rattle.label.proofs.Session.read_check.Statement.{statement}
 use Rattle.label.proofs.Session.read_check.Tie as tie
 
-is-sound-requires : tie.Need-is-sound-requires
-is-sound-requires c κs = search needs
+sound-check-requires : tie.Need-sound-check-requires
+sound-check-requires c κs = search needs
+
+failed-requires : tie.Need-failed-requires
+failed-requires c κs = search needs
 
 returns : tie.Need-returns
-returns c kind e = read-gets-6 kind (c .before .before .before .args .self) (now (c .before .before .before .args .words)) (c .before .before .before .args .places) (sym (c .before .is-sound .ensures) ∙ not-true _ (c .if1 .taken))
+returns c = let s = c .before .before .before .before .args in λ kind e. read-unsound (s .self) (now (s .words)) _ (c .before .before .sound-check .ensures) (failed-some _ _ (c .before .failed .ensures) (c .if1 .taken)) kind (s .places)
 
-geometry-requires : tie.Need-geometry-requires
-geometry-requires c κs =
-    let s = c .before .before .before .args .self in
-    let ws = now (c .before .before .before .args .words) in
-    let S = sound-right s ws (sym (c .before .is-sound .ensures) ∙ not-false _ (c .if1 .left)) in
-    (S .shape .ranked, S .shape .limits)
+sub-read-check : tie.Need-sub-read-check
+sub-read-check c = let s = c .before .before .before .before .before .before .args in joins-fit (s .self) (now (s .words)) (found-sound (s .self) (now (s .words)) _ (c .before .before .before .before .sound-check .ensures) (passed-none _ _ (c .before .before .before .failed .ensures) (c .before .before .if1 .left)))
 
-mul-if2 : tie.Need-mul-if2
-mul-if2 c =
-    let s = c .before .before .before .before .before .args .self in
-    let ws = now (c .before .before .before .before .before .args .words) in
-    let S = sound-right s ws (sym (c .before .before .before .is-sound .ensures) ∙ not-false _ (c .before .before .if1 .left)) in
-    record { fits = omega (arith, geo-size s ws S (c .before .geometry .result) (c .before .geometry .ensures), geo-small s ws S (c .before .geometry .result) (c .before .geometry .ensures)) }
+read-check-requires : tie.Need-read-check-requires
+read-check-requires c κs = let s = c .before .before .before .before .before .before .args in read-asked (s .self) (now (s .words)) _ (c .before .before .before .before .sound-check .ensures) (passed-none _ _ (c .before .before .before .failed .ensures) (c .before .before .if1 .left))
 
 returns-2 : tie.Need-returns-2
-returns-2 c kind e =
-    let s = c .before .before .before .before .before .before .args .self in
-    let ws = now (c .before .before .before .before .before .before .args .words) in
-    let S = sound-right s ws (sym (c .before .before .before .before .is-sound .ensures) ∙ not-false _ (c .before .before .before .if1 .left)) in
-    geo-gets-9 s ws S (c .before .before .geometry .result) (c .before .before .geometry .ensures) kind (c .before .before .before .before .before .before .args .places) (c .if2 .taken)
-
-sub-if3 : tie.Need-sub-if3
-sub-if3 c =
-    let s = c .before .before .before .before .before .before .before .args .self in
-    let ws = now (c .before .before .before .before .before .before .before .args .words) in
-    let S = sound-right s ws (sym (c .before .before .before .before .before .is-sound .ensures) ∙ not-false _ (c .before .before .before .before .if1 .left)) in
-    joins-fit s ws S
-
-returns-3 : tie.Need-returns-3
-returns-3 c kind e =
-    let s = c .before .before .before .before .before .before .before .before .args .self in
-    let ws = now (c .before .before .before .before .before .before .before .before .args .words) in
-    let S = sound-right s ws (sym (c .before .before .before .before .before .before .is-sound .ensures) ∙ not-false _ (c .before .before .before .before .before .if1 .left)) in
-    geo-gets-10 s ws S (c .before .before .before .before .geometry .result) (c .before .before .before .before .geometry .ensures) kind (c .before .before .before .before .before .before .before .before .args .places) (c .before .before .if2 .left) (c .before .before .before .before .before .before .before .before .args .most) e (c .if3 .taken)
-
-returns-4 : tie.Need-returns-4
-returns-4 c kind e =
-    let s = c .before .before .before .before .before .before .before .before .args .self in
-    let ws = now (c .before .before .before .before .before .before .before .before .args .words) in
-    let S = sound-right s ws (sym (c .before .before .before .before .before .before .is-sound .ensures) ∙ not-false _ (c .before .before .before .before .before .if1 .left)) in
-    geo-reads s ws S (c .before .before .before .before .geometry .result) (c .before .before .before .before .geometry .ensures) kind (c .before .before .before .before .before .before .before .before .args .places) (c .before .before .if2 .left) (c .before .before .before .before .before .before .before .before .args .most) e (c .if3 .left)
+returns-2 c =
+    let s = c .before .before .before .before .before .before .before .args in
+    λ kind e. read-found (s .self) (now (s .words)) _ (c .before .before .before .before .before .sound-check .ensures) (passed-none _ _ (c .before .before .before .before .failed .ensures) (c .before .before .before .if1 .left)) _ kind (s .places) (c .read-check .ensures kind e)
 
 pub read-check-spec : {M : Type 1} → statement M
 read-check-spec =
     tie.close
     (tie.spec
-    is-sound-requires
+    sound-check-requires
+    failed-requires
     returns
-    geometry-requires
-    mul-if2
-    returns-2
-    sub-if3
-    returns-3
-    returns-4)
+    sub-read-check
+    read-check-requires
+    returns-2)

@@ -1,20 +1,20 @@
--- `read_u16` meets its promise: it is refused with the number that its check finds, and else read.
+-- `read_u16` meets its contract: refused, or numbered.
 -- Assumes nothing.
+use borrow.Author.Needs.{needs}
 use mathlib.Core.Path.{_≡_, refl, sym, _∙_}
 use Prim.Native.Nat.{ℕ}
-use borrow.Author.Needs.{needs}
 use denote.Ref.{now}
 use lib.ListN.{length}
 use Rattle.frame.specs.Kinds.{u16, largest}
 use Rattle.frame.proofs.PlainLaws.{unless-none}
 use Rattle.label.proofs.AcceptedLaws.{cause-read, read-promise}
-use Rattle.label.proofs.RefusedLaws.{failed-some, failed-never, passed-none, refused-read}
+use Rattle.label.proofs.RefusedLaws.{failed-never, refused-read}
 use Rattle.label.proofs.WrittenNumbers.{read-ready, read-done}
 use Rattle.label.proofs.FitLaws.{joins-fit}
+use Rattle.causes.proofs.CaseLaws.{failed-some, passed-none}
 use Rattle.label.proofs.Session.read_u16.Statement.{statement}
 use Rattle.label.proofs.Session.read_u16.Tie as tie
 
--- MAXV
 most : _≡_ {A = ℕ} 65535 (largest u16)
 unfolding largest
 most = refl
@@ -26,7 +26,7 @@ failed-requires : tie.Need-failed-requires
 failed-requires c κs = search needs
 
 answer-read-requires : tie.Need-answer-read-requires
-answer-read-requires c κs none = absurd (failed-never _ _ (c .before .failed .ensures) (c .if1 .taken) none)
+answer-read-requires c κs = λ none. absurd (failed-never _ _ (c .before .failed .ensures) (c .if1 .taken) none)
 
 same-length : tie.Need-same-length
 same-length c = search needs
@@ -34,28 +34,23 @@ same-length c = search needs
 returns : tie.Need-returns
 returns c =
     let s = c .before .before .before .before .before .before .before .args in
-    let some = failed-some _ _ (c .before .before .failed .ensures) (c .before .if1 .taken) in
-    refused-read u16 (s .self) (now (s .words)) (now (s .out)) _ (c .before .before .before .read-check .ensures u16 most) some _ _ (c .answer-read .ensures .1) _ (c .answer-read .ensures .0)
-
-geometry-requires : tie.Need-geometry-requires
-geometry-requires c κs =
-    let s = c .before .before .before .before .before .before .args in
-    let none = passed-none _ _ (c .before .failed .ensures) (c .if1 .left) in
-    let given = cause-read u16 (s .self) (now (s .words)) (length (now (s .out))) (sym (c .before .before .read-check .ensures u16 most) ∙ none) in
-    (given .is-sound .shape .ranked, given .is-sound .shape .limits)
+    let found = c .before .before .before .read-check .ensures u16 most in
+    refused-read u16 (s .self) (now (s .words)) (now (s .out)) _ (found .number) (failed-some _ _ (c .before .before .failed .ensures) (c .before .if1 .taken)) _ _ (c .answer-read .ensures .1) _ (c .answer-read .ensures .0)
 
 write-block-u16-requires : tie.Need-write-block-u16-requires
 write-block-u16-requires c κs =
     let s = c .before .before .before .before .before .before .before .before .before .args in
+    let found = c .before .before .before .before .before .read-check .ensures u16 most in
     let none = passed-none _ _ (c .before .before .before .before .failed .ensures) (c .before .before .before .if1 .left) in
-    let given = cause-read u16 (s .self) (now (s .words)) (length (now (s .out))) (sym (c .before .before .before .before .before .read-check .ensures u16 most) ∙ none) in
-    let g = c .before .before .geometry in
-    read-ready u16 (s .self) (now (s .words)) (length (now (s .out))) given (g .result) (g .ensures)
+    let no-cause = sym (found .number) ∙ none in
+    let given = cause-read u16 (s .self) (now (s .words)) (length (now (s .out))) no-cause in
+    read-ready u16 (s .self) (now (s .words)) (length (now (s .out))) given _ (found .geometry no-cause)
 
 answer-read-requires-2 : tie.Need-answer-read-requires-2
-answer-read-requires-2 c κs none =
+answer-read-requires-2 c κs =
     let s = c .before .before .before .before .before .before .before .before .before .before .before .before .before .before .args in
-    joins-fit (s .self) (now (s .words)) (cause-read u16 (s .self) (now (s .words)) (length (now (s .out))) (sym (c .before .before .before .before .before .before .before .before .before .before .read-check .ensures u16 most) ∙ none) .is-sound)
+    let found = c .before .before .before .before .before .before .before .before .before .before .read-check .ensures u16 most in
+    λ none. joins-fit (s .self) (now (s .words)) (cause-read u16 (s .self) (now (s .words)) (length (now (s .out))) (sym (found .number) ∙ none) .is-sound)
 
 same-length-2 : tie.Need-same-length-2
 same-length-2 c = search needs
@@ -66,12 +61,13 @@ same-length-3 c = search needs
 returns-2 : tie.Need-returns-2
 returns-2 c =
     let s = c .before .before .before .before .before .before .before .before .before .before .before .before .before .before .before .args in
+    let found = c .before .before .before .before .before .before .before .before .before .before .before .read-check .ensures u16 most in
     let none = passed-none _ _ (c .before .before .before .before .before .before .before .before .before .before .failed .ensures) (c .before .before .before .before .before .before .before .before .before .if1 .left) in
-    let given = cause-read u16 (s .self) (now (s .words)) (length (now (s .out))) (sym (c .before .before .before .before .before .before .before .before .before .before .before .read-check .ensures u16 most) ∙ none) in
-    let g = c .before .before .before .before .before .before .before .before .geometry in
+    let no-cause = sym (found .number) ∙ none in
+    let given = cause-read u16 (s .self) (now (s .words)) (length (now (s .out))) no-cause in
     let w = c .before .before .before .before .before .write-block-u16 in
-    let done = read-done u16 (s .self) (now (s .words)) (length (now (s .out))) given (g .result) (g .ensures) (w .last .0) (now (s .out)) (w .last .1 .1 .1 .1 .0) refl (w .ensures) in
-    read-promise u16 (s .self) (now (s .words)) (now (s .out)) (sym (c .before .before .before .before .before .before .before .before .before .before .before .read-check .ensures u16 most) ∙ none) (w .last .0) (w .last .1 .1 .1 .1 .0) done _ (c .answer-read2 .ensures .1 ∙ unless-none _ _ none) _ (c .answer-read2 .ensures .0)
+    let done = read-done u16 (s .self) (now (s .words)) (length (now (s .out))) given _ (found .geometry no-cause) (w .last .0) (now (s .out)) (w .last .1 .1 .1 .0) refl (w .ensures) in
+    read-promise u16 (s .self) (now (s .words)) (now (s .out)) no-cause (w .last .0) (w .last .1 .1 .1 .0) done _ (c .answer-read2 .ensures .1 ∙ unless-none _ _ none) _ (c .answer-read2 .ensures .0)
 
 pub read-u16-spec : {M : Type 1} → statement M
 read-u16-spec =
@@ -82,7 +78,6 @@ read-u16-spec =
     answer-read-requires
     same-length
     returns
-    geometry-requires
     write-block-u16-requires
     answer-read-requires-2
     same-length-2

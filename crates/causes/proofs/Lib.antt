@@ -1,0 +1,4 @@
+pub mod CaseLaws
+pub mod OpenLaws
+pub mod FrameLaws
+pub mod CallLaws

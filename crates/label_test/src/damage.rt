@@ -1,0 +1,277 @@
+// Damaged records and memories: one field or word changed so that a clause of document 01's "Unsound, exactly" holds. A feed, a
+// reading and a size call that would be accepted must then get 6 and leave record, words and output as they were.
+use flood::Extent;
+use flood::get;
+use flood::layout;
+use flood::less;
+use flood::plus;
+use flood::put;
+use flood::times;
+use flood::word;
+use label::Session;
+use samples::below;
+use samples::tally;
+use trial::answers;
+use trial::answers::Done;
+
+// The damages: of the record, then of the line starts, then of a run, then the shorter memory. The last is none, for which the calls are
+// accepted.
+const RECORD: usize = 10;
+
+const CROWDED: usize = 13;
+
+const SHORTER: usize = 22;
+
+const NONE: usize = 23;
+
+// ---- records
+
+fn damage_rank(rank: usize, d: usize) -> usize {
+    match d {
+        0 => 0,
+        1 => 5,
+        _ => rank,
+    }
+}
+
+fn damage_dimension(dimension: usize, d: usize) -> usize {
+    match d {
+        2 => 0,
+        3 => 4294967293,
+        _ => dimension,
+    }
+}
+
+fn damage_shape(shape: [usize; 4], rank: usize, d: usize) -> [usize; 4] {
+    let mut s = shape;
+    let last = less(rank, 1);
+    s[0] = damage_dimension(shape[0], d);
+    if d == 4 {
+        if last < 4 {
+            s[last] = 2147483647;
+        }
+    }
+    s
+}
+
+fn damage_record(session: Session, lines: usize, d: usize) -> Session {
+    let shape = session.shape;
+    let structure = session.structure;
+    Session {
+        rank: damage_rank(session.rank, d),
+        shape: damage_shape(shape, session.rank, d),
+        structure,
+        fed: if d == 5 { plus(lines, 1) } else { session.fed },
+        runs: less(plus(session.runs, (d == 6) as usize), (d == 7) as usize),
+        joins: less(plus(session.joins, (d == 8) as usize), (d == 9) as usize),
+    }
+}
+
+// Whether damage d breaks a clause on a record of this rank: a leading dimension of 0 or too large needs one.
+fn breaks_record(rank: usize, d: usize) -> bool {
+    (d < RECORD) & !((rank == 1) & ((d == 2) | (d == 3)))
+}
+
+// ---- words
+
+// Changes a word to another; gives whether it did.
+fn change(words: &mut [u32], at: usize, x: usize) -> bool {
+    let before = get(words, at);
+    put(words, at, word(x));
+    word(x) != before
+}
+
+// Of the line starts: word 0; a start below the one before; the last not the count of runs.
+fn line_place(line: usize, fed: usize, d: usize) -> usize {
+    match d {
+        10 => 0,
+        11 => line,
+        _ => fed,
+    }
+}
+
+fn line_value(before: usize, runs: usize, d: usize) -> usize {
+    match d {
+        10 => 1,
+        11 => less(before, 1),
+        _ => plus(runs, 1),
+    }
+}
+
+fn damage_lines(words: &mut [u32], fed: usize, runs: usize, line: usize, d: usize) -> bool {
+    let before = get(words, less(line, 1)) as usize;
+    let breaks = (d != 11) | ((before > 0) & (line <= fed));
+    breaks & change(words, line_place(line, fed, d), line_value(before, runs, d))
+}
+
+// All runs in the last line.
+fn crowd(words: &mut [u32], fed: usize) {
+    for line in 1..fed {
+        put(words, line, 0);
+    }
+}
+
+// Whether run r + 1 is in the line of run r: no line starts with it.
+fn line_mates(words: &[u32], fed: usize, r: usize) -> bool {
+    let mut mates = true;
+    for line in 0..plus(fed, 1) {
+        mates = mates & (get(words, line) != word(plus(r, 1)));
+    }
+    mates
+}
+
+// Of a run, from 14 on: its start not below its end; its end past the width; the next run of the line over it, or before it, or touching
+// it; longer than one cell; its parent above it; a root that is none, or a run that is made a root.
+fn run_place(d: usize) -> usize {
+    match d {
+        14 => 0,
+        15 => 1,
+        16..=18 => 4,
+        19 => 1,
+        _ => 2,
+    }
+}
+
+fn run_value(r: usize, start: usize, end: usize, parent: usize, width: usize, d: usize) -> usize {
+    match d {
+        14 => end,
+        15 => plus(width, 1),
+        16 => less(end, 1),
+        17 => 0,
+        18 => end,
+        19 => plus(start, 2),
+        20 => plus(r, 1),
+        _ => less(r, (parent == r) as usize),
+    }
+}
+
+// Whether the damage breaks a clause, if it changes a word: by whether the next run is in the line, the left byte is nonzero, and the run
+// can get another parent.
+fn breaks_run(mates: bool, left: bool, other: bool, d: usize) -> bool {
+    match d {
+        16 => mates,
+        17 => mates,
+        18 => mates & left,
+        19 => !left,
+        21 => other,
+        _ => true,
+    }
+}
+
+fn damage_run(words: &mut [u32], e: Extent, fed: usize, runs: usize, r: usize, d: usize) -> bool {
+    let at = layout::run_word(e, r, 0);
+    let start = get(words, at) as usize;
+    let end = get(words, plus(at, 1)) as usize;
+    let parent = get(words, plus(at, 2)) as usize;
+    let mates = line_mates(words, fed, r);
+    let breaks = breaks_run(mates, e.left, (parent != r) | (r > 0), d);
+    let x = run_value(r, start, end, parent, e.width, d);
+    (r < runs) & breaks & change(words, plus(at, run_place(d)), x)
+}
+
+fn damage_words(words: &mut [u32], e: Extent, session: Session, d: usize, x: u64) -> bool {
+    let runs = session.runs;
+    let fed = session.fed;
+    if (d < RECORD) | (d >= SHORTER) {
+        return false;
+    }
+    if d < CROWDED {
+        return damage_lines(words, fed, runs, plus(below(x, fed), 1), d);
+    }
+    if d == CROWDED {
+        crowd(words, fed);
+        return runs > layout::most_runs(e);
+    }
+    damage_run(words, e, fed, runs, below(x, runs), d)
+}
+
+// ---- the calls
+
+fn answered(done: Done, session: Session, right: usize) -> bool {
+    let after = done.session;
+    (done.answer.number == right) & answers::same_record(after, session)
+}
+
+// One call: a feed of no lines, 1, a reading, 2, or the size call, 3. Whether it gives this number, and writes nothing if refused.
+fn call(
+    session: Session,
+    words: &mut [u32],
+    places: usize,
+    kind: usize,
+    right: usize,
+    x: u64,
+) -> bool {
+    let mut got = [171u32; 640];
+    if kind == 1 {
+        let done = trial::feed(session, words, 0, &[], (x % 4) as usize);
+        return answered(done, session, right);
+    }
+    let done = trial::read(session, words, places, &mut got, kind);
+    let stands = layout::places_alike(&got, &[], 0);
+    answered(done, session, right) & ((right == 0) | stands)
+}
+
+fn call_all(
+    session: Session,
+    words: &mut [u32],
+    e: Extent,
+    n: usize,
+    right: usize,
+    state: &mut [u64; 40],
+) {
+    for kind in 1..4 {
+        let places = crate::sessions::exact_places(kind, e, n);
+        let agreed = call(session, words, places, kind, right, tally::random(state));
+        tally::count(state, tally::OTHER, right, agreed);
+    }
+}
+
+// One damage, if it breaks a clause here.
+fn try_damage(
+    session: Session,
+    e: Extent,
+    words: [u32; 3201],
+    n: usize,
+    d: usize,
+    state: &mut [u64; 40],
+) {
+    let mut bad = words;
+    let worse = damage_words(&mut bad, e, session, d, tally::random(state));
+    let broken = worse | breaks_record(session.rank, d) | (d == SHORTER);
+    if !broken & (d != NONE) {
+        return;
+    }
+    let kept = bad;
+    let memory = less(layout::words_needed(e), (d == SHORTER) as usize);
+    let s = damage_record(session, e.lines, d);
+    call_all(
+        s,
+        samples::lend_u32(&mut bad, memory),
+        e,
+        n,
+        times(6, broken as usize),
+        state,
+    );
+    let agreed = !broken | layout::words_alike(&bad, &kept);
+    tally::count(state, plus(tally::UNDAMAGED, broken as usize), 0, agreed);
+}
+
+fn try_damages(session: Session, e: Extent, words: [u32; 3201], n: usize, state: &mut [u64; 40]) {
+    for d in 0..24 {
+        try_damage(session, e, words, n, d, state);
+    }
+}
+
+// A session with some lines fed, and every damage in turn.
+pub fn try_damaged(shape: &[usize], structure: &[u8], flags: &[u8], state: &mut [u64; 40]) {
+    let mut words = [7u32; 3201];
+    let e = flood::extent_of(shape, structure);
+    let fed = below(tally::random(state), plus(e.lines, 1));
+    let opened = trial::open(shape, structure, &mut words);
+    let cells = samples::first(flags, times(fed, e.width));
+    let done = trial::feed(opened.session, &mut words, fed, cells, 0);
+    let said = done.answer;
+    tally::count(state, tally::OTHER, said.number, said.number == 0);
+    let session = done.session;
+    try_damages(session, e, words, less(said.b, said.c), state);
+}

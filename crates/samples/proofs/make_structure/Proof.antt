@@ -1,0 +1,89 @@
+-- `samples::make_structure` is safe and ends. Slices lent keep their length.
+-- Assumes nothing.
+use mathlib.Core.Path.{_≡_}
+use lib.ListN.{length}
+use borrow.Author.Needs.{needs}
+use Prim.Native.Nat.{_-_}
+use Rattle.samples.proofs.make_structure.Statement.{statement}
+use Rattle.samples.proofs.make_structure.Tie as tie
+
+abbrev Inv-loop : tie.InvT-loop
+Inv-loop structure₀ count x middle left y₀ i₀ structure y i = length structure ≡ length structure₀
+
+abbrev μ-loop : tie.MeasureT-loop
+μ-loop structure₀ count x middle left y₀ i₀ structure y i = count - i
+
+less-requires : tie.Need-less-requires Inv-loop μ-loop
+less-requires c κs = search needs
+
+loop-holds : tie.Need-loop-holds Inv-loop μ-loop
+loop-holds c = search needs
+
+next-requires : tie.Need-next-requires Inv-loop μ-loop
+next-requires c κs = search needs
+
+less-requires-2 : tie.Need-less-requires-2 Inv-loop μ-loop
+less-requires-2 c κs = search needs
+
+less-requires-3 : tie.Need-less-requires-3 Inv-loop μ-loop
+less-requires-3 c κs = search needs
+
+byte-requires : tie.Need-byte-requires Inv-loop μ-loop
+byte-requires c κs = search needs
+
+structure-byte-requires : tie.Need-structure-byte-requires Inv-loop μ-loop
+structure-byte-requires c κs = search needs
+
+put-byte-requires : tie.Need-put-byte-requires Inv-loop μ-loop
+put-byte-requires c κs = search needs
+
+add-i : tie.Need-add-i Inv-loop μ-loop
+add-i c = search needs
+
+loop-less : tie.Need-loop-less Inv-loop μ-loop
+loop-less c = search needs
+
+loop-again : tie.Need-loop-again Inv-loop μ-loop
+loop-again c = search needs
+
+byte-requires-2 : tie.Need-byte-requires-2 Inv-loop μ-loop
+byte-requires-2 c κs = search needs
+
+next-requires-2 : tie.Need-next-requires-2 Inv-loop μ-loop
+next-requires-2 c κs = search needs
+
+left-byte-requires : tie.Need-left-byte-requires Inv-loop μ-loop
+left-byte-requires c κs = search needs
+
+put-byte-requires-2 : tie.Need-put-byte-requires-2 Inv-loop μ-loop
+put-byte-requires-2 c κs = search needs
+
+same-length : tie.Need-same-length Inv-loop μ-loop
+same-length c = search needs
+
+returns : tie.Need-returns Inv-loop μ-loop
+returns c = search needs
+
+pub make-structure-spec : {M : Type 1} → statement M
+make-structure-spec =
+    tie.close
+    (tie.spec
+    Inv-loop
+    μ-loop
+    less-requires
+    loop-holds
+    next-requires
+    less-requires-2
+    less-requires-3
+    byte-requires
+    structure-byte-requires
+    put-byte-requires
+    add-i
+    loop-less
+    loop-again
+    byte-requires-2
+    next-requires-2
+    left-byte-requires
+    put-byte-requires-2
+    same-length
+    returns)
