@@ -17,7 +17,7 @@ pub fn extract_block_u8(
     k: usize,
 ) -> usize
     requires { ⌜ RoomFor g fed runs k (map nz (now cells)) (now words) ⌝ }
-    ensures { λ n. ⌜ Extracts g fed runs k (map nz (now (cells .entry))) (now (words .entry)) (now (words .exit)) n ⌝ }
+    ensures { λ count. ⌜ Extracts g fed runs k (map nz (now (cells .entry))) (now (words .entry)) (now (words .exit)) count ⌝ }
 {
     let base = g.lines + 1;
     let mut count = runs;
@@ -41,7 +41,7 @@ pub fn extract_block_u16(
     k: usize,
 ) -> usize
     requires { ⌜ RoomFor g fed runs k (map nz (now cells)) (now words) ⌝ }
-    ensures { λ n. ⌜ Extracts g fed runs k (map nz (now (cells .entry))) (now (words .entry)) (now (words .exit)) n ⌝ }
+    ensures { λ count. ⌜ Extracts g fed runs k (map nz (now (cells .entry))) (now (words .entry)) (now (words .exit)) count ⌝ }
 {
     let base = g.lines + 1;
     let mut count = runs;
@@ -65,7 +65,7 @@ pub fn extract_block_i16(
     k: usize,
 ) -> usize
     requires { ⌜ RoomFor g fed runs k (map nzℤ (now cells)) (now words) ⌝ }
-    ensures { λ n. ⌜ Extracts g fed runs k (map nzℤ (now (cells .entry))) (now (words .entry)) (now (words .exit)) n ⌝ }
+    ensures { λ count. ⌜ Extracts g fed runs k (map nzℤ (now (cells .entry))) (now (words .entry)) (now (words .exit)) count ⌝ }
 {
     let base = g.lines + 1;
     let mut count = runs;
@@ -89,7 +89,7 @@ pub fn extract_block_f32(
     k: usize,
 ) -> usize
     requires { ⌜ RoomFor g fed runs k (map nzF (now cells)) (now words) ⌝ }
-    ensures { λ n. ⌜ Extracts g fed runs k (map nzF (now (cells .entry))) (now (words .entry)) (now (words .exit)) n ⌝ }
+    ensures { λ count. ⌜ Extracts g fed runs k (map nzF (now (cells .entry))) (now (words .entry)) (now (words .exit)) count ⌝ }
 {
     let base = g.lines + 1;
     let mut count = runs;

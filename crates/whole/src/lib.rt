@@ -19,9 +19,9 @@ ghost use Rattle.label.specs.WholeFrame.{blockLines, FramePromise};
 ghost use Rattle.whole.specs.FeedAll.{SomeReady, FeedsAll, SomeFed, Numbers};
 
 // The figures of a frame whose lines are all fed.
-pub struct FedFrame {
-    pub runs: usize,
-    pub joins: usize,
+struct FedFrame {
+    runs: usize,
+    joins: usize,
 }
 
 // ---- blocks
