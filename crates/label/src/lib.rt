@@ -7,7 +7,7 @@
 //     Session::sizes     each number's cell count
 //
 // The record is a value: a call takes it and hands it back. An enum holds no array, so an answer stands beside the record in a
-// struct. specs/Cases.antt gives document 01's number and values for each case.
+// struct. specs/Cases.antt gives document 01's values for each case, and crate causes the number of each cause.
 //
 // A call is a check and then the work: sound_check, feed_check, read_check and sizes_check find the cause, and hand on the record's
 // geometry; what follows works on a record that is known to be sound.
