@@ -50,13 +50,13 @@ def ours(lib, cells, structure, number, blocks):
     lines, width = int(np.prod(cells.shape[:-1])), cells.shape[-1]
     words = np.full(lines + 1 + 4 * lines * width, 0xABCDEF01, np.uint32)
     out = np.full(cells.shape, 77, NUMBERS[number])
-    answer = np.full(4, 99, np.uint64)
+    answer = np.full(8, 99, np.uint64)
     kind = next(k for k, v in CELLS.items() if v == cells.dtype)
     call = getattr(lib, f"label_frame_{kind}_{number}")
     call.restype = ctypes.c_uint32
     size, at = ctypes.c_size_t, lambda a: ctypes.c_void_p(a.ctypes.data)
     returned = call(shape, size(cells.ndim), at(bytes_), size(bytes_.size), at(words), size(words.size), at(cells), size(cells.size),
-                    at(out), size(out.size), size(blocks), at(answer), size(4))
+                    at(out), size(out.size), size(blocks), at(answer), size(8))
     return returned, [int(x) for x in answer[:3]], out
 
 

@@ -96,7 +96,7 @@ static void test_session(void)
         before = s;
         CHECK(feed(&s, 1, line * W, W) == LABEL_OK);
         CHECK(s.answer[0] == line + 1 && s.answer[1] == runs[line] && s.answer[2] == joins[line]);
-        CHECK(memcmp(s.answer + 3, before.answer + 3, 3 * sizeof s.answer[0]) == 0);
+        CHECK(memcmp(s.answer + 3, before.answer + 3, (ANSWER + 2 - 3) * sizeof s.answer[0]) == 0);
         CHECK(memcmp(s.record + RECORD, before.record + RECORD, 2 * sizeof s.record[0]) == 0);
         CHECK(label_read_u8(s.record, RECORD, s.words, WORDS, out, L * W, s.answer, ANSWER) == LABEL_OK);
         CHECK(s.answer[0] == runs[line] - joins[line] && s.answer[1] == runs[line] && s.answer[2] == joins[line]);
@@ -234,13 +234,13 @@ static void test_kind(void)
     static const uint8_t ones[3] = {1, 1, 1};
     static uint8_t line[WIDE], out[WIDE];
     static uint32_t memory[WORDS_WIDE];
-    uint64_t answer[ANSWER] = {5, 6, 7, 8};
+    uint64_t answer[ANSWER] = {5, 6, 7, 8, 9, 10, 11, 12};
     size_t width = 509, i;
 
     for (i = 0; i < WIDE; i++)
         line[i] = i % 2 == 0;
     CHECK(label_frame_u8_u8(&width, 1, ones, 3, memory, WORDS_WIDE, line, width, out, width, 1, answer, ANSWER) == LABEL_OK);
-    CHECK(answer[0] == 255 && answer[1] == 255 && answer[2] == 0 && answer[3] == 8 && out[508] == 255);
+    CHECK(answer[0] == 255 && answer[1] == 255 && answer[2] == 0 && answer[3] == 8 && answer[7] == 12 && out[508] == 255);
     width = WIDE;
     memset(out, 9, sizeof out);
     CHECK(label_frame_u8_u8(&width, 1, ones, 3, memory, WORDS_WIDE, line, width, out, width, 1, answer, ANSWER) == LABEL_KIND);

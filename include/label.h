@@ -36,9 +36,10 @@ enum label_result {
     LABEL_SHORT = 100            /* the record has fewer than LABEL_RECORD_WORDS words, or the answer fewer than LABEL_ANSWER_WORDS */
 };
 
-/* The words of a record, and the least words of an answer. */
+/* The words of a record, and the least words of an answer. An accepted call writes the first words of the answer, as is said at each,
+ * and leaves the others as they were. */
 #define LABEL_RECORD_WORDS 89
-#define LABEL_ANSWER_WORDS 4
+#define LABEL_ANSWER_WORDS 8
 
 /* The words of memory that a frame needs: lines + 1 + 4 x lines x h, where h is half the width, rounded up, or the whole width
  * where the structure's left byte is 0. `lines` is the product of the leading dimensions (1 for rank 1), `left` is the left byte: the one

@@ -3,6 +3,9 @@
 
 use drivers::kinds::{Cell, Number};
 
+/// LABEL_ANSWER_WORDS: the least words of an answer.
+pub const ANSWER: usize = 8;
+
 pub type Frame<C, N> =
     unsafe extern "C" fn(*const usize, usize, *const u8, usize, *mut u32, usize, *const C, usize, *mut N, usize, usize, *mut u64, usize) -> u32;
 pub type Feed<C> = unsafe extern "C" fn(*mut u64, usize, *mut u32, usize, usize, *const C, usize, *mut u64, usize) -> u32;

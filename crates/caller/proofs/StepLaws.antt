@@ -10,13 +10,13 @@ use lib.Dec.{leb, ltb}
 use lib.ListN.{length, getD, take, drop, replicate, List·getD-eq-default}
 use lib.Seq.{length-take-le}
 use Rattle.frame.specs.Kinds.{Cells, flags, Number, u32}
-use Rattle.frame.specs.Plain.{Call, feed, read, sizes, Answer, nothing, numbers, counts, Answered}
+use Rattle.frame.specs.Plain.{zeroFigures, Call, feed, read, sizes, Answer, nothing, numbers, counts, Answered}
 use Rattle.label.specs.declared.Session.{Session}
 use Rattle.label.specs.Feeding.{FeedPromise}
 use Rattle.label.specs.Reading.{ReadPromise, SizesPromise}
 use Rattle.calls.specs.Trace.{Trace, by-feed, by-read, by-sizes}
 use Rattle.caller.specs.declared.Four.{Four}
-use Rattle.caller.specs.CallList.{Lent, Entry, call, no-call, feedEntry, held, readEntry, sizesEntry, entryOf, callsOf, noCall, answerNumbers, numbersOf, woven}
+use Rattle.caller.specs.CallList.{Lent, Entry, call, no-call, feedEntry, held, readEntry, sizesEntry, entryOf, callsOf, noCall, eightNumbers, answerNumbers, numbersOf, woven}
 use Rattle.frame.specs.Overlay.{overlay, Adds}
 use Rattle.caller.specs.Rooms.{Rooms, leaves, roomsAfter}
 use Rattle.caller.specs.Making.{Standing, Steps, FeedOf, Feeds}
@@ -37,7 +37,7 @@ unfolding callsOf woven roomsAfter
 step-call {a = a} by A es end R = record { answered = a ∷ R .answered; trace = by (callsOf es) (R .answered) (end .session) (end .words) (R .trace); rooms = R .rooms; adds = adds-then A (R .adds) }
 
 pub step-none : {s : Session} {ws : List ℕ} {rooms : Rooms} {buf buf′ : List ℕ} {i j : ℕ}
-    → Adds (noCall ∷ 0 ∷ 0 ∷ 0 ∷ []) buf i buf′ j
+    → Adds (eightNumbers noCall 0 zeroFigures) buf i buf′ j
     → Steps no-call (stand s ws rooms buf i) (stand s ws rooms buf′ j)
 unfolding callsOf woven roomsAfter
 step-none A es end R = record { answered = R .answered; trace = R .trace; rooms = R .rooms; adds = adds-then A (R .adds) }

@@ -8,6 +8,8 @@ use lib.IntN.{ℤ}
 use lib.Ieee.{Float}
 use lib.ListN.{length, getD, take, drop, replicate}
 use Rattle.frame.specs.Kinds.{Cells, u8s, u16s, i16s, f32s, Number, u8, u16, u32}
+use Rattle.frame.specs.declared.Figures.{Figures}
+use Rattle.frame.specs.Plain.{zeroFigures}
 use Rattle.frame.specs.Plain.{Call, feed, read, sizes, Answer, fed, counted, refused, Written, nothing, numbers, counts, Answered}
 
 -- ---- calls
@@ -76,11 +78,14 @@ callsOf (no-call ∷ es) = callsOf es
 abbrev pub noCall : ℕ
 noCall = 101
 
--- four numbers for what is answered
+-- eight numbers for what is answered: 0 or a cause, lines fed or n, the figures, and zeros for the rest
+abbrev pub eightNumbers : ℕ → ℕ → Figures → List ℕ
+eightNumbers number count f = number ∷ count ∷ f .runs ∷ f .joins ∷ 0 ∷ 0 ∷ 0 ∷ 0 ∷ []
+
 abbrev pub answerNumbers : Answer → List ℕ
-answerNumbers (fed l f) = 0 ∷ l ∷ f .runs ∷ f .joins ∷ []
-answerNumbers (counted n f) = 0 ∷ n ∷ f .runs ∷ f .joins ∷ []
-answerNumbers (refused c) = c ∷ 0 ∷ 0 ∷ 0 ∷ []
+answerNumbers (fed l f) = eightNumbers 0 l f
+answerNumbers (counted n f) = eightNumbers 0 n f
+answerNumbers (refused c) = eightNumbers c 0 zeroFigures
 
 -- and then what the output holds, place by place
 abbrev pub outputNumbers : Written → List ℕ
@@ -94,6 +99,6 @@ numbersOf a = answerNumbers (a .said) ++ outputNumbers (a .written)
 -- the answers of the calls, with those of what is no call in their places. Each call has its answer
 unfoldable pub woven : List Entry → List Answered → List ℕ
 woven [] az = []
-woven (no-call ∷ es) az = noCall ∷ 0 ∷ 0 ∷ 0 ∷ woven es az
+woven (no-call ∷ es) az = eightNumbers noCall 0 zeroFigures ++ woven es az
 woven (call c ∷ es) [] = []
 woven (call c ∷ es) (a ∷ az) = numbersOf a ++ woven es az

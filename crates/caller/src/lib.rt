@@ -9,9 +9,9 @@ ghost use Prim.Native.Nat.{ℕ, _+_, _≤_, _<_};
 ghost use lib.Dec.{leb};
 ghost use lib.ListN.{length, getD, replicate};
 ghost use Rattle.frame.specs.Kinds.{u8, u16, u32};
-ghost use Rattle.frame.specs.Plain.{read, sizes, numbers, counts};
+ghost use Rattle.frame.specs.Plain.{zeroFigures, read, sizes, numbers, counts};
 ghost use Rattle.label.specs.Cases.{openNumber, feedAnswer, readAnswer};
-ghost use Rattle.caller.specs.CallList.{call, no-call, readEntry, sizesEntry, decode, answerNumbers};
+ghost use Rattle.caller.specs.CallList.{call, no-call, readEntry, sizesEntry, decode, eightNumbers, answerNumbers};
 ghost use Rattle.frame.specs.Overlay.{Adds};
 ghost use Rattle.caller.specs.Rooms.{Rooms, leaves, roomsOf, roomsAtEntry, roomsAtExit, lentIn};
 ghost use Rattle.caller.specs.Making.{standing, fourAt, Performs, Steps, StepsIn, entryAt, filledWith, FeedOf, Feeds};
@@ -62,14 +62,35 @@ fn put_four(answers: &mut [u64], at: usize, a: u64, b: usize, c: usize, d: usize
     put(answers, fourth, d as u64)
 }
 
+// The eight numbers of an answer: 0 or a cause, lines fed or n, the figures, and zeros.
+fn put_answer(
+    answers: &mut [u64],
+    at: usize,
+    number: u64,
+    count: usize,
+    figures: frame::Figures,
+) -> usize
+    ensures { λ r. ⌜ Adds (eightNumbers number count figures) (now (answers .entry)) at (now (answers .exit)) r ⌝ }
+{
+    let next = put_four(answers, at, number, count, figures.runs, figures.joins);
+    put_four(answers, next, 0, 0, 0, 0)
+}
+
+// Of a refusal, and of what is no call: its number alone.
+fn put_number(answers: &mut [u64], at: usize, number: u64) -> usize
+    ensures { λ r. ⌜ Adds (eightNumbers number 0 zeroFigures) (now (answers .entry)) at (now (answers .exit)) r ⌝ }
+{
+    put_answer(answers, at, number, 0, frame::Figures::zero())
+}
+
 fn put_fed(answers: &mut [u64], at: usize, answer: label::FeedAnswer) -> usize
     ensures { λ r. ⌜ Adds (answerNumbers (feedAnswer answer)) (now (answers .entry)) at (now (answers .exit)) r ⌝ }
 {
     match answer {
-        label::FeedAnswer::Accepted { lines, runs, joins } => {
-            put_four(answers, at, 0, lines, runs, joins)
+        label::FeedAnswer::Accepted { lines, figures } => {
+            put_answer(answers, at, 0, lines, figures)
         }
-        label::FeedAnswer::Refused(cause) => put_four(answers, at, cause.number() as u64, 0, 0, 0),
+        label::FeedAnswer::Refused(cause) => put_number(answers, at, cause.number() as u64),
     }
 }
 
@@ -77,10 +98,8 @@ fn put_read(answers: &mut [u64], at: usize, answer: label::ReadAnswer) -> usize
     ensures { λ r. ⌜ Adds (answerNumbers (readAnswer answer)) (now (answers .entry)) at (now (answers .exit)) r ⌝ }
 {
     match answer {
-        label::ReadAnswer::Accepted { n, runs, joins } => {
-            put_four(answers, at, 0, n, runs, joins)
-        }
-        label::ReadAnswer::Refused(cause) => put_four(answers, at, cause.number() as u64, 0, 0, 0),
+        label::ReadAnswer::Accepted { n, figures } => put_answer(answers, at, 0, n, figures),
+        label::ReadAnswer::Refused(cause) => put_number(answers, at, cause.number() as u64),
     }
 }
 
@@ -178,7 +197,7 @@ fn no_call(g: Going, answers: &mut [u64]) -> Going
     ensures { λ r. ⌜ ((words : List ℕ) (rooms : Rooms)
         → Steps no-call (standing g words rooms (now (answers .entry))) (standing r words rooms (now (answers .exit)))) ⌝ }
 {
-    let next = put_four(answers, g.at, NO_CALL, 0, 0, 0);
+    let next = put_number(answers, g.at, NO_CALL);
     let session = g.session;
     Going { session, at: next }
 }

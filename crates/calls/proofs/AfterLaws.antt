@@ -1,4 +1,4 @@
--- A reading, and a size call, of a record that holds a state of the plain session.
+-- A reading, and a size call, of a record that holds a state of the plain session, and the parents that its words hold.
 -- Assumes nothing.
 use mathlib.Core.Path.{_≡_, refl, sym, ap, _∙_, subst}
 use mathlib.Core.Bool.{Bool}
@@ -22,11 +22,12 @@ use Rattle.frame.proofs.PlainLaws.{unless-none, kept-new}
 use Rattle.frame.proofs.ListLaws.{listed-from}
 use Rattle.label.specs.declared.Session.{Session}
 use Rattle.label.specs.Record.{shapeOf, structureOf}
-use Rattle.label.specs.Held.{figuresOf, cellsOf, rootCount, numbersHeld, sizesHeld}
+use Rattle.label.specs.Held.{cellsOf, rootCount, numbersHeld, sizesHeld}
 use Rattle.label.specs.Reading.{countedOf, readCauseOf, ReadPromise, sizesCauseOf, SizesPromise}
 use Rattle.label.proofs.Invariant.{stateOf, Inv, inv-n, inv-figures, inv-numbers, inv-sizes}
+use Rattle.label.proofs.GroupedLaws.{inv-parents, inv-root, inv-smallest}
 use Rattle.label.proofs.KeepLaws.{read-cause, sizes-cause}
-use Rattle.calls.specs.Demand3.{Balanced, Reads, Sizes, Afterwards}
+use Rattle.calls.specs.Demand3.{Balanced, Reads, Sizes, Afterwards, Grouped}
 use Rattle.calls.proofs.RightLaws.{figures-right}
 
 -- a reading that is right gives each cell the number that the chain rule does
@@ -51,7 +52,7 @@ module _ (s : Session) (ws : List ℕ) (I : Inv s ws) where
   n-right = inv-n s ws I ∙ (unfold groupsOf in refl)
 
   -- the record's figures are right
-  figures-held : Balanced shape (stateOf s ws) (figuresOf s)
+  figures-held : Balanced shape (stateOf s ws) (s .figures)
   figures-held = subst (Balanced shape (stateOf s ws)) (sym (inv-figures s ws I)) (figures-right shape (stateOf s ws))
 
   read-is-accepted : (kind : Number) (out : List (Value kind)) → length out ≡ size shape → n ≤ largest kind → readCauseOf kind s ws (length out) ≡ 0
@@ -60,9 +61,9 @@ module _ (s : Session) (ws : List ℕ) (I : Inv s ws) where
   reads : (kind : Number) (out : List (Value kind)) → length out ≡ size shape → n ≤ largest kind
       → (a : Answer) (s′ : Session) (ws′ : List ℕ) (out′ : List (Value kind)) → ReadPromise kind s ws out a s′ ws′ out′ → Reads shape (stateOf s ws) kind a out′
   reads kind out e h a s′ ws′ out′ P = record {
-    figures = figuresOf s;
+    figures = s .figures;
     balanced = figures-held;
-    accepted = P .said ∙ unless-none (readCauseOf kind s ws (length out)) (countedOf s ws) no-cause ∙ ap (λ (m : ℕ). counted m (figuresOf s)) n-right;
+    accepted = P .said ∙ unless-none (readCauseOf kind s ws (length out)) (countedOf s ws) no-cause ∙ ap (λ (m : ℕ). counted m (s .figures)) n-right;
     long = ap length wrote ∙ length-map (labels shape structure cells) (write kind) ∙ length-labels shape structure cells;
     labelled = numbered-same (λ q. getD (labels shape structure cells) q 0) (λ q. value kind (getD out′ q (write kind 0)))
         (λ q l. sym (ap (λ (o : List (Value kind)). value kind (getD o q (write kind 0))) wrote ∙ ap (value kind) (List·getD-map (write kind) (labels shape structure cells) q 0) ∙ value-write kind (getD (labels shape structure cells) q 0)))
@@ -95,9 +96,9 @@ module _ (s : Session) (ws : List ℕ) (I : Inv s ws) where
   sized : (out : List ℕ) → length out ≡ n → (a : Answer) (s′ : Session) (ws′ out′ : List ℕ) → SizesPromise s ws out a s′ ws′ out′
       → Sizes shape (stateOf s ws) a out′
   sized out e a s′ ws′ out′ P = record {
-    figures = figuresOf s;
+    figures = s .figures;
     balanced = figures-held;
-    accepted = P .said ∙ unless-none (sizesCauseOf s ws (length out)) (countedOf s ws) no-cause ∙ ap (λ (m : ℕ). counted m (figuresOf s)) n-right;
+    accepted = P .said ∙ unless-none (sizesCauseOf s ws (length out)) (countedOf s ws) no-cause ∙ ap (λ (m : ℕ). counted m (s .figures)) n-right;
     long = ap length wrote ∙ long;
     counts = λ ν N g low high. ap (λ (l : List ℕ). getD l (g - 1) 0) wrote ∙ size-at g low high ∙ same-size ν N g;
   }
@@ -110,3 +111,6 @@ module _ (s : Session) (ws : List ℕ) (I : Inv s ws) where
 
   pub afterwards : Afterwards shape (stateOf s ws) s ws
   afterwards = record { reads = reads; sizes = sized }
+
+  pub parents-grouped : Grouped shape (stateOf s ws) ws
+  parents-grouped = record { at-most = inv-parents s ws I; one-root = inv-root s ws I; smallest = inv-smallest s ws I }

@@ -1,17 +1,19 @@
--- One list of calls worked out, refused ones among them: document 01's frame 1, by calls of every cell and number kind.
+-- One list of calls worked out, refused ones among them: document 01's frame 1, by calls of every kind; and the roots of its runs.
 -- Assumes nothing.
 use mathlib.Core.Path.{_≡_, refl}
 use mathlib.Core.Bool.{false}
-use mathlib.Core.List.{List, [], _∷_}
+use mathlib.Core.List.{List, [], _∷_, _++_, map}
+use Prim.Native.Nat.{ℕ}
 use lib.Ieee.{nan, fin}
 use lib.IntN.{pos, negsuc}
 use lib.ListN.{replicate}
+use Rattle.frame.specs.Runs.{runOf}
 use Rattle.frame.specs.Kinds.{u16, u8s, u16s, i16s, f32s, nz, nzℤ, nzF, flags, u32, u8}
-use Rattle.frame.specs.Plain.{Call, feed, read, sizes, fed, counted, refused, nothing, numbers, counts}
+use Rattle.frame.specs.Plain.{Call, feed, read, sizes, fed, counted, refused, nothing, numbers, counts, State}
 use Rattle.label.proofs.CallFunctions.{doOpen}
 use Rattle.label.proofs.MeetLaws.{open-met}
-use Rattle.label.proofs.Worked.{computed, frame, cross, memory, f, begun}
-use Rattle.calls.specs.Demand3.{Demand3}
+use Rattle.label.proofs.Worked.{computed, frame, cross, memory, line, whole, f, begun}
+use Rattle.calls.specs.Demand3.{rootAt, Demand3}
 use Rattle.calls.proofs.Demand3.{demand3}
 use Rattle.calls.proofs.MeetLaws.{Ran, doCalls, calls-met}
 
@@ -58,3 +60,22 @@ answers-right = refl
 demand-met : Demand3 frame cross calls (ran .answers) (ran .session) (ran .words)
 unfolding ran begun
 demand-met = demand3 frame cross memory (doOpen frame cross memory .number) (doOpen frame cross memory .session) (doOpen frame cross memory .words) (open-met frame cross memory) (unfold computed in refl) calls _ _ _ (calls-met _ _ calls)
+
+-- all lines fed, and words that join the five runs: run 3's parent is run 1, and that one's run 0
+abbrev three : State
+three = record { structure = cross; fed = 3; cells = line ++ line ++ whole }
+
+abbrev words : List ℕ
+words =
+    0 ∷ 2 ∷ 4 ∷ 5
+    ∷ 0 ∷ 1 ∷ 0 ∷ 7
+    ∷ 2 ∷ 3 ∷ 0 ∷ 7
+    ∷ 0 ∷ 1 ∷ 0 ∷ 7
+    ∷ 2 ∷ 3 ∷ 1 ∷ 7
+    ∷ 0 ∷ 3 ∷ 0 ∷ 7
+    ∷ replicate 4 7
+
+-- each cell's run has the root 0, be it two parents away
+roots-right : map (rootAt frame three words) (0 ∷ 2 ∷ 3 ∷ 5 ∷ 6 ∷ []) ≡ replicate 5 0
+unfolding computed runOf
+roots-right = refl

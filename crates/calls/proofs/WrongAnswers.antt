@@ -1,15 +1,18 @@
--- Answers and outputs that demand 3's clauses refuse: those cheats of document 01's "For whoever tests it" that show in an answer.
+-- Answers, outputs and parents that demand 3's clauses refuse: those cheats of document 01's "For whoever tests it" that show in them.
 -- Assumes nothing.
 use mathlib.Core.Path.{_≡_, refl}
-use mathlib.Core.List.{[], _∷_, _++_}
-use Prim.Native.Nat.{ℕ}
+use mathlib.Core.List.{List, [], _∷_, _++_}
+use Prim.Native.Nat.{ℕ, _≤_}
 use native.Mathlib.Omega.{arith}
+use lib.ListN.{replicate}
+use Rattle.groups.specs.Groups.{one}
 use Rattle.frame.specs.ChainRule.{label}
+use Rattle.frame.specs.Runs.{runOf}
 use Rattle.frame.specs.Kinds.{u8}
 use Rattle.frame.specs.Plain.{Answer, fed, counted, refused, State}
-use Rattle.frame.proofs.ChainRuleLaws.{label-right}
+use Rattle.frame.proofs.ChainRuleLaws.{label-right, label-group}
 use Rattle.label.proofs.Worked.{computed, frame, cross, line, f}
-use Rattle.calls.specs.Demand3.{Right, Reads, Sizes}
+use Rattle.calls.specs.Demand3.{Right, Reads, Sizes, Grouped}
 use Rattle.calls.proofs.AfterLaws.{number-is}
 
 -- after two lines of document 01's frame 1
@@ -53,3 +56,31 @@ leaves-unfed a R = let z : _≡_ {A = ℕ} 5 0 = number-is frame two u8 a _ R 6 
 shifted : (a : Answer) → Sizes frame two a (5 ∷ 2 ∷ []) → ⊥
 unfolding computed
 shifted a S = let z : _≡_ {A = ℕ} 5 2 = S .counts (label frame cross (line ++ line)) (label-right frame cross (line ++ line)) 1 (omega arith) (omega arith) in omega arith
+
+-- the words after those two lines, with any parents of their four runs. Cells 0 and 3 are of runs 0 and 2, and make one group; cells 2 and
+-- 5 are of runs 1 and 3, and make another
+abbrev parents : ℕ → ℕ → ℕ → ℕ → List ℕ
+parents a b c d = 0 ∷ 2 ∷ 4 ∷ 7 ∷ 0 ∷ 1 ∷ a ∷ 7 ∷ 2 ∷ 3 ∷ b ∷ 7 ∷ 0 ∷ 1 ∷ c ∷ 7 ∷ 2 ∷ 3 ∷ d ∷ 7 ∷ replicate 8 7
+
+-- all runs have one root; each run is its own; run 3 is the root of runs 1 and 3, by a parent that is above its run
+one-group : Grouped frame two (parents 0 0 0 0) → ⊥
+unfolding computed runOf
+one-group G =
+    let C = G .one-root 0 2 refl refl .0 refl in
+    let z : _≡_ {A = ℕ} 1 2 = label-group frame cross (line ++ line) 0 2 (omega arith) (omega arith) refl refl .1 (refl, C) in
+    omega arith
+
+own-roots : Grouped frame two (parents 0 1 2 3) → ⊥
+unfolding computed runOf
+own-roots G =
+    let C = label-group frame cross (line ++ line) 0 3 (omega arith) (omega arith) refl refl .0 refl in
+    let z : _≡_ {A = ℕ} 0 2 = G .one-root 0 3 refl refl .1 (C .1) in
+    omega arith
+
+larger-root : Grouped frame two (parents 0 3 0 3) → ⊥
+unfolding computed runOf
+larger-root G = let z : 3 ≤ 1 = G .smallest 2 refl .least 2 (refl, one) in omega arith
+
+parent-above : Grouped frame two (parents 0 3 0 3) → ⊥
+unfolding computed
+parent-above G = let z : 3 ≤ 1 = G .at-most 1 (omega arith) in omega arith

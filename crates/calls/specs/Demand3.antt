@@ -1,17 +1,21 @@
 -- What demand 3 asks of every list of calls from an accepted opening, clause by clause. proofs/Demand3.antt proves it.
 -- Assumes nothing.
 use mathlib.Core.Path.{_≡_}
-use mathlib.Core.Logic.{_≢_}
+use mathlib.Core.Logic.{_≢_, _↔_}
+use mathlib.Core.Bool.{true}
 use mathlib.Core.List.{List, [], _∷_}
 use Prim.Native.Nat.{ℕ, _+_, _-_, _≤_, _<_}
 use lib.Dec.{eqb}
 use lib.ListN.{length, getD}
-use Rattle.groups.specs.Groups.{count}
-use Rattle.frame.specs.Shape.{size}
-use Rattle.frame.specs.ChainRule.{Labelled, groupCount}
-use Rattle.frame.specs.Runs.{runs}
+use Rattle.groups.specs.Groups.{Chain, count}
+use Rattle.frame.specs.Shape.{size, lines}
+use Rattle.frame.specs.ChainRule.{nonzero, Step, Labelled, groupCount}
+use Rattle.frame.specs.Runs.{runs, runOf, SmallestRun}
 use Rattle.frame.specs.Kinds.{Number, largest, Value, write, value}
-use Rattle.frame.specs.Plain.{Call, Figures, Answer, fed, counted, refused, Answered, State, opened, next, plain, after}
+use Rattle.frame.specs.declared.Figures.{Figures}
+use Rattle.frame.specs.Plain.{Call, Answer, fed, counted, refused, Answered, State, opened, next, plain, after}
+use Rattle.frame.specs.Words.{parentOf}
+use Rattle.forest.specs.Forest.{rootOf}
 use Rattle.label.specs.declared.Session.{Session}
 use Rattle.label.specs.Reading.{ReadPromise, SizesPromise}
 
@@ -74,6 +78,27 @@ module _ (shape : List ℕ) where
       pub sizes : (out : List ℕ) → length out ≡ n
           → (a : Answer) (s′ : Session) (ws′ out′ : List ℕ) → SizesPromise s ws out a s′ ws′ out′ → Sizes a out′
 
+  -- ---- the parents after the list
+
+  -- in the words ws, where the lines of p are fed
+  module _ (p : State) (ws : List ℕ) where
+    -- run r's parent, and the root of the run that cell a is of
+    abbrev parent : ℕ → ℕ
+    parent r = parentOf (lines shape) ws r
+
+    abbrev pub rootAt : ℕ → ℕ
+    rootAt a = rootOf parent (runOf shape (p .structure) (p .cells) a)
+
+    -- "Parents are the one free part: each is at most its own run number, they give the chain rule's grouping, and a group's root is its
+    -- smallest run"
+    pub record Grouped : Type 0 where
+      pub at-most : (r : ℕ) → r < runs shape (p .structure) (p .cells) → parent r ≤ r
+      -- the runs of two fed nonzero cells have one root exactly when a chain joins the cells
+      pub one-root : (a b : ℕ) → nonzero (p .cells) a ≡ true → nonzero (p .cells) b ≡ true
+          → (rootAt a ≡ rootAt b) ↔ Chain (Step shape (p .structure) (p .cells)) a b
+      -- and it is the smallest run of the cell's group
+      pub smallest : (a : ℕ) → nonzero (p .cells) a ≡ true → SmallestRun shape (p .structure) (p .cells) a (rootAt a)
+
   -- ---- the demand
 
   -- of calls that were answered so, from an opening with that structure on, and led to the record s and the words ws
@@ -85,3 +110,5 @@ module _ (shape : List ℕ) where
     pub right : AllRight (opened structure) calls answers
     -- "After every such list, a reading .."
     pub afterwards : Afterwards (after shape (opened structure) calls) s ws
+    -- "Parents are the one free part .."
+    pub grouped : Grouped (after shape (opened structure) calls) ws

@@ -35,13 +35,22 @@ fn put_call(list: &mut [usize; 256], i: usize, call: Call) {
     }
 }
 
-fn say(wanted: &mut [u64; 16384], at: usize, answer: Answer) {
-    if at < 16380 {
-        wanted[at] = answer.number as u64;
-        wanted[at + 1] = answer.a as u64;
-        wanted[at + 2] = answer.b as u64;
-        wanted[at + 3] = answer.c as u64;
+fn say_number(wanted: &mut [u64; 16384], at: usize, x: u64) {
+    if at < 16384 {
+        wanted[at] = x;
     }
+}
+
+// The eight numbers of an answer, of which the last four are 0.
+fn say(wanted: &mut [u64; 16384], at: usize, answer: Answer) {
+    say_number(wanted, at, answer.number as u64);
+    say_number(wanted, plus(at, 1), answer.count as u64);
+    say_number(wanted, plus(at, 2), answer.figures.runs as u64);
+    say_number(wanted, plus(at, 3), answer.figures.joins as u64);
+    say_number(wanted, plus(at, 4), 0);
+    say_number(wanted, plus(at, 5), 0);
+    say_number(wanted, plus(at, 6), 0);
+    say_number(wanted, plus(at, 7), 0);
 }
 
 // An output of so many places: what was written, or what it held before.
@@ -113,10 +122,10 @@ fn say_all(
     wanted: &mut [u64; 16384],
 ) -> Standing {
     let accepted = answer.number == 0;
-    let next = plus(now.at, 4);
+    let next = plus(now.at, 8);
     say(wanted, now.at, answer);
     if call.code < 4 {
-        let fed = if accepted { answer.a } else { now.fed };
+        let fed = if accepted { answer.count } else { now.fed };
         return Standing { fed, at: next };
     }
     if answer.number == plain::NO_CALL {
@@ -186,7 +195,7 @@ fn say_rest(rest: usize, at: usize, wanted: &mut [u64; 16384], state: &mut [u64;
     }
     say(wanted, at, answers::refused(plain::NO_CALL));
     count_answer(state, plain::NO_CALL);
-    plus(at, 4)
+    plus(at, 8)
 }
 
 // ---- the calls made

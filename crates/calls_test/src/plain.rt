@@ -55,12 +55,7 @@ pub fn feed(
     copy_cells(frame, times(before, e.width), cells, call.b, call.c);
     let fed = plus(before, call.a);
     let count = flood::number_cells(e, structure, frame, times(fed, e.width), &mut marks);
-    Answer {
-        number: 0,
-        a: fed,
-        b: count.runs,
-        c: less(count.runs, count.n),
-    }
+    answers::accepted(fed, count)
 }
 
 // ---- readings and size calls
@@ -84,12 +79,7 @@ pub fn read(call: Call, exact: usize, count: Count) -> Answer {
     if cause != 0 {
         return answers::refused(cause);
     }
-    Answer {
-        number: 0,
-        a: count.n,
-        b: count.runs,
-        c: less(count.runs, count.n),
-    }
+    answers::accepted(count.n, count)
 }
 
 // What the output holds before: the number modulo the kind's values.

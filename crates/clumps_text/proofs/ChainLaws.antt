@@ -7,9 +7,13 @@ use lib.ListN.{length, getD}
 use Rattle.frame.specs.Shape.{size}
 use Rattle.frame.specs.ChainRule.{Labelled, groupCount, labels}
 use Rattle.frame.specs.Runs.{runs}
+use Rattle.frame.specs.Plain.{feeds, groupsOf, figures}
 use Rattle.frame.proofs.ChainRuleLaws.{labels-right, length-labels}
 use Rattle.clumps_text.specs.Input.{TextFrame, parsed, parse}
 use Rattle.clumps_text.specs.Output.{frameShape, frameStructure, labelledText, outputTo, printed, clumpsOf}
+
+abbrev runsIn : TextFrame → ℕ
+runsIn f = runs (frameShape f) (frameStructure f) (f .cells)
 
 -- an output, and the labelling of a frame that it prints
 pub record Labelling (f : TextFrame) (out : List ℕ) : Type 0 where
@@ -17,10 +21,10 @@ pub record Labelling (f : TextFrame) (out : List ℕ) : Type 0 where
   pub ns : List ℕ
   pub one-each : length ns ≡ size (frameShape f)
   pub labelled : Labelled (frameShape f) (frameStructure f) (f .cells) n (λ p. getD ns p 0)
-  pub prints : out ≡ labelledText (runs (frameShape f) (frameStructure f) (f .cells)) (runs (frameShape f) (frameStructure f) (f .cells) - n) n ns
+  pub prints : out ≡ labelledText n (record { runs = runsIn f; joins = runsIn f - n }) ns
 
 pub chain-rule : (text : List ℕ) (f : TextFrame) → parse text ≡ parsed f [] → Labelling f (clumpsOf text)
-unfolding clumpsOf printed outputTo
+unfolding clumpsOf printed outputTo figures groupsOf feeds
 chain-rule text f e =
     record {
       n = groupCount (frameShape f) (frameStructure f) (f .cells);

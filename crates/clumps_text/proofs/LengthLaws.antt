@@ -5,7 +5,7 @@ use mathlib.Core.Path.{_≡_, refl, ap, subst}
 use mathlib.Core.Logic.{_⊎_, inl, inr}
 use mathlib.Core.Bool.{Bool, true, false}
 use mathlib.Core.List.{List, [], _∷_, map}
-use Prim.Native.Nat.{ℕ, suc, _-_, _*_, _/_, _≤_, _<_}
+use Prim.Native.Nat.{ℕ, suc, _*_, _/_, _≤_, _<_}
 use native.Mathlib.Nat.{le-trans}
 use native.Mathlib.Omega.{arith}
 use borrow.Author.Tests.{ltb-true, ltb-false}
@@ -15,6 +15,8 @@ use Rattle.groups.proofs.CountLaws.{count-most}
 use Rattle.frame.specs.Shape.{size}
 use Rattle.frame.specs.ChainRule.{nonzero, groupCount, labels}
 use Rattle.frame.specs.Runs.{beginsRun, runs}
+use Rattle.frame.specs.declared.Figures.{Figures}
+use Rattle.frame.specs.Plain.{feeds, groupsOf, figures}
 use Rattle.frame.proofs.ChainRuleLaws.{labels-right, length-labels}
 use Rattle.clumps_text.specs.Text.{decimal, blankBefore, decimals, flagCharacter, widthName, linesName, structureName, cellsName, runsName, joinsName, objectsName, labelsName, refusedName}
 use Rattle.clumps_text.specs.Input.{TextFrame, Accepted, textBefore, Parsed, parsed, bad, parse}
@@ -73,11 +75,12 @@ refusal-text-most =
     let t = two-digits 11 (omega arith) in
     simp length-append (omega arith)
 
-labelled-text-most : (r j n : ℕ) (ns : List ℕ) → r < 10000 → j < 10000 → n < 10000 → Small ns → length ns ≤ 2304 → length (labelledText r j n ns) ≤ 11561
+labelled-text-most : (n : ℕ) (f : Figures) (ns : List ℕ) → f .runs < 10000 → f .joins < 10000 → n < 10000 → Small ns → length ns ≤ 2304
+    → length (labelledText n f ns) ≤ 11561
 unfolding labelledText runsName joinsName objectsName labelsName
-labelled-text-most r j n ns a b c s m =
-    let x = four-digits r a in
-    let y = four-digits j b in
+labelled-text-most n f ns a b c s m =
+    let x = four-digits (f .runs) a in
+    let y = four-digits (f .joins) b in
     let z = four-digits n c in
     let w = decimals-most ns s m in
     simp length-append (omega arith)
@@ -106,12 +109,10 @@ module _ (f : TextFrame) (a : Accepted f) where
       go false e = omega (arith, labels-right (frameShape f) (frameStructure f) (f .cells) .off p l e)
 
   accepted-most : length (outputOf f) ≤ 11561
-  unfolding outputTo
+  unfolding outputTo figures groupsOf feeds
   accepted-most =
-      let r = runs (frameShape f) (frameStructure f) (f .cells) in
-      let n = groupCount (frameShape f) (frameStructure f) (f .cells) in
-      let ns = labels (frameShape f) (frameStructure f) (f .cells) in
-      labelled-text-most r (r - n) n ns runs-small (omega (arith, runs-small)) count-small labels-small (omega (arith, length-labels (frameShape f) (frameStructure f) (f .cells), cells-most))
+      let long = length-labels (frameShape f) (frameStructure f) (f .cells) in
+      labelled-text-most _ _ _ runs-small (omega (arith, runs-small)) count-small labels-small (omega (arith, long, cells-most))
 
 pub output-most : (text : List ℕ) → length (clumpsOf text) ≤ 11561
 unfolding clumpsOf printed

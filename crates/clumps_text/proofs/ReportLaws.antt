@@ -3,14 +3,14 @@
 use mathlib.Core.Path.{_≡_, refl, sym, ap, _∙_, subst}
 use mathlib.Core.Bool.{Bool, true, false}
 use mathlib.Core.List.{List, [], _∷_, _++_, map}
-use Prim.Native.Nat.{ℕ, _-_, _*_, _≤_}
+use Prim.Native.Nat.{ℕ, _*_, _≤_}
 use native.Mathlib.Omega.{arith}
 use lib.ListN.{length, take, drop, length-append}
 use lib.Seq.{length-take-le, take-at}
 use Rattle.frame.specs.ChainRule.{groupCount}
 use Rattle.frame.specs.Kinds.{nz}
-use Rattle.frame.specs.Plain.{Answer}
-use Rattle.frame.specs.Runs.{runs}
+use Rattle.frame.specs.Plain.{Answer, figures}
+use Rattle.label.specs.WholeFrame.{allFed}
 use Rattle.clumps_text.specs.declared.Place.{Place}
 use Rattle.clumps_text.specs.declared.Place.the-variants.{At, Nowhere}
 use Rattle.clumps_text.specs.declared.ParsedShape.{ParsedShape}
@@ -51,9 +51,9 @@ ready {w} {l} {structure} {cells} {numbers} r =
 pub labels-printed : {shape structure : List ℕ} {cells : List Bool} {a : Answer} {new : List ℕ} (numbers : List ℕ) {ys out : List ℕ} {at : ℕ} → numbers ≡ new → Labels shape structure cells a new → Holds (answerText a numbers) ys out at → Holds (outputTo shape structure cells) ys out at
 unfolding outputTo
 labels-printed {shape} {structure} {cells} {a} numbers {ys} {out} {at} e l p =
-    let r = runs shape structure cells in
+    let f = figures shape (allFed shape structure cells) in
     let n = groupCount shape structure cells in
-    let x : answerText a numbers ≡ outputTo shape structure cells = ap (λ (b : Answer). answerText b numbers) (l .said) ∙ ap (λ (ns : List ℕ). labelledText r (r - n) n ns) (e ∙ l .labelled) in
+    let x : answerText a numbers ≡ outputTo shape structure cells = ap (λ (b : Answer). answerText b numbers) (l .said) ∙ ap (labelledText n f) (e ∙ l .labelled) in
     subst (λ (t : List ℕ). Holds t ys out at) x p
 
 -- ---- flags and bytes

@@ -2,9 +2,11 @@
 -- Assumes nothing.
 use mathlib.Core.Bool.{Bool, cond}
 use mathlib.Core.List.{List, [], _∷_, map}
-use Prim.Native.Nat.{ℕ, _-_}
+use Prim.Native.Nat.{ℕ}
 use Rattle.frame.specs.ChainRule.{groupCount, labels}
-use Rattle.frame.specs.Runs.{runs}
+use Rattle.frame.specs.declared.Figures.{Figures}
+use Rattle.frame.specs.Plain.{figures}
+use Rattle.label.specs.WholeFrame.{allFed}
 use Rattle.clumps_text.specs.Text.{line, decimal, decimals, runsName, joinsName, objectsName, labelsName, refusedName}
 use Rattle.clumps_text.specs.Input.{TextFrame, Parsed, parsed, bad, parse}
 
@@ -32,17 +34,15 @@ frameStructure f = structureBytes (f .structure)
 unfoldable pub refusalText : ℕ → List ℕ
 refusalText cause = line refusedName (decimal cause) []
 
-unfoldable pub labelledText : ℕ → ℕ → ℕ → List ℕ → List ℕ
-labelledText runs joins n labels =
-    line runsName (decimal runs)
-    (line joinsName (decimal joins) (line objectsName (decimal n) (line labelsName (decimals labels) [])))
+unfoldable pub labelledText : ℕ → Figures → List ℕ → List ℕ
+labelledText n f labels =
+    line runsName (decimal (f .runs))
+    (line joinsName (decimal (f .joins)) (line objectsName (decimal n) (line labelsName (decimals labels) [])))
 
--- objects is n, and joins is runs - n
+-- objects is n, and the figures are those of all lines fed
 unfoldable pub outputTo : List ℕ → List ℕ → List Bool → List ℕ
 outputTo shape structure cells =
-    let r = runs shape structure cells in
-    let n = groupCount shape structure cells in
-    labelledText r (r - n) n (labels shape structure cells)
+    labelledText (groupCount shape structure cells) (figures shape (allFed shape structure cells)) (labels shape structure cells)
 
 abbrev pub outputOf : TextFrame → List ℕ
 outputOf f = outputTo (frameShape f) (frameStructure f) (f .cells)

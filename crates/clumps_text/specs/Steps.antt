@@ -3,11 +3,11 @@
 use mathlib.Core.Path.{_≡_}
 use mathlib.Core.Bool.{Bool, true, false}
 use mathlib.Core.List.{List, [], _∷_, map}
-use Prim.Native.Nat.{ℕ, _-_, _*_, _≤_}
+use Prim.Native.Nat.{ℕ, _*_, _≤_}
 use lib.ListN.{length, take, drop}
 use Rattle.frame.specs.ChainRule.{groupCount, labels}
-use Rattle.frame.specs.Plain.{Answer, fed, counted, refused}
-use Rattle.frame.specs.Runs.{runs}
+use Rattle.frame.specs.Plain.{Answer, fed, counted, refused, figures}
+use Rattle.label.specs.WholeFrame.{allFed}
 use Rattle.clumps_text.specs.declared.Place.{Place}
 use Rattle.clumps_text.specs.declared.Place.the-variants.{At, Nowhere}
 use Rattle.clumps_text.specs.declared.ParsedShape.{ParsedShape}
@@ -85,14 +85,11 @@ pub record LabelReady (width lines : ℕ) (structure cells numbers : List ℕ) (
 
 -- accepted, with the figures and labels of crate frame's definitions
 pub record Labels (shape structure : List ℕ) (cells : List Bool) (a : Answer) (numbers : List ℕ) : Type 0 where
-  pub said :
-      a
-      ≡ counted (groupCount shape structure cells)
-      (record { runs = runs shape structure cells; joins = runs shape structure cells - groupCount shape structure cells })
+  pub said : a ≡ counted (groupCount shape structure cells) (figures shape (allFed shape structure cells))
   pub labelled : numbers ≡ labels shape structure cells
 
 -- what an answer prints, with the numbers of an accepted one. A feed's is printed nowhere
 abbrev pub answerText : Answer → List ℕ → List ℕ
 answerText (fed l f) numbers = []
-answerText (counted n f) numbers = labelledText (f .runs) (f .joins) n numbers
+answerText (counted n f) numbers = labelledText n f numbers
 answerText (refused c) numbers = refusalText c

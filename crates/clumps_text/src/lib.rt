@@ -289,11 +289,11 @@ fn put_line(out: &mut [u8], at: usize, name: &[u8], n: usize) -> usize
     put(out, b, 10)
 }
 
-fn put_labelled_text(out: &mut [u8], runs: usize, joins: usize, n: usize, numbers: &[u16]) -> usize
-    ensures { λ r. ⌜ Holds (labelledText runs joins n (now (numbers .entry))) (now (out .entry)) (now (out .exit)) r ⌝ }
+fn put_labelled_text(out: &mut [u8], n: usize, figures: frame::Figures, numbers: &[u16]) -> usize
+    ensures { λ r. ⌜ Holds (labelledText n figures (now (numbers .entry))) (now (out .entry)) (now (out .exit)) r ⌝ }
 {
-    let a = put_line(out, 0, b"runs=", runs);
-    let b = put_line(out, a, b"joins=", joins);
+    let a = put_line(out, 0, b"runs=", figures.runs);
+    let b = put_line(out, a, b"joins=", figures.joins);
     let c = put_line(out, b, b"objects=", n);
     let d = put_bytes(out, c, b"labels=");
     let e = put_decimals(out, d, numbers);
@@ -330,13 +330,7 @@ fn put_answer(out: &mut [u8], answer: label::ReadAnswer, numbers: &[u16]) -> usi
     ensures { λ r. ⌜ Holds (answerText (readAnswer answer) (now (numbers .entry))) (now (out .entry)) (now (out .exit)) r ⌝ }
 {
     match answer {
-        label::ReadAnswer::Accepted { n, runs, joins } => put_labelled_text(
-            out,
-            runs,
-            joins,
-            n,
-            numbers,
-        ),
+        label::ReadAnswer::Accepted { n, figures } => put_labelled_text(out, n, figures, numbers),
         label::ReadAnswer::Refused(cause) => put_refusal(out, cause.number() as usize),
     }
 }

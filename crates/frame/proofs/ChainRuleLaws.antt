@@ -11,7 +11,7 @@ use borrow.Author.Tests.{eqb-true, eqb-false, eq-eqb}
 use lib.Dec.{eqb}
 use lib.ListN.{length, getD, length-map, List·getD-eq-default}
 use lib.Seq.{ext-getD}
-use Rattle.groups.specs.Groups.{Edge, Joined}
+use Rattle.groups.specs.Groups.{Chain, one, more, Edge, Joined}
 use Rattle.groups.proofs.BoolLaws.{and-true, and-left, and-right, and₃, or-right, or-cases}
 use Rattle.groups.proofs.GatherLaws.{pairs-from, from-pairs}
 use Rattle.groups.proofs.ChainLaws.{chain-map}
@@ -118,6 +118,11 @@ module _ (shape structure : List ℕ) (cells : List Bool) where
       go : Leads shape structure p q ⊎ Leads shape structure q p → Leads shape structure q p ⊎ Leads shape structure p q
       go (inl l) = inr l
       go (inr l) = inl l
+
+  -- all cells of a group are nonzero
+  pub chain-nonzero : {p q : ℕ} → nonzero cells p ≡ true → Chain (Step shape structure cells) p q → nonzero cells q ≡ true
+  chain-nonzero a one = a
+  chain-nonzero a (more s h) = chain-nonzero (s .there) h
 
   nonzero-ends : Ends (λ p. nonzero cells p ≡ true) (edges shape structure cells)
   nonzero-ends = ends-all (λ p. nonzero cells p ≡ true) (edges shape structure cells) (λ e m. let s = step-parts e m in (s .0, s .1))

@@ -5,6 +5,7 @@ use mathlib.Core.List.{List, [], _∷_, _++_, map}
 use Prim.Native.Nat.{ℕ, zero, suc, _+_, _-_}
 use lib.Dec.{eqb}
 use lib.ListN.{length}
+use Rattle.frame.specs.declared.Figures.{Figures}
 use Rattle.frame.specs.Shape.{size, width, lines}
 use Rattle.frame.specs.ChainRule.{groupCount, labels, sizesOf}
 use Rattle.frame.specs.Runs.{runs}
@@ -23,10 +24,9 @@ pub data Call : Type 0 where
 
 -- ---- answers
 
--- the figures that every accepted answer has
-pub record Figures : Type 0 where
-  pub runs : ℕ
-  pub joins : ℕ
+-- every accepted answer has figures: runs and joins so far, a struct of the code too. Before any line is fed
+abbrev pub zeroFigures : Figures
+zeroFigures = record { runs = 0; joins = 0 }
 
 pub data Answer : Type 0 where
   -- a feed: lines fed, runs and joins, so far

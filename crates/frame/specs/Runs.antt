@@ -1,5 +1,6 @@
 -- Runs: of a line, and of all fed lines.
 -- Assumes nothing.
+use mathlib.Core.Path.{_≡_}
 use mathlib.Core.Bool.{Bool, true, false, not, cond, _&&_}
 use mathlib.Core.List.{List, [], _∷_}
 use Prim.Native.Nat.{ℕ, suc, _-_, _*_, _%_, _≤_, _<_}
@@ -8,7 +9,7 @@ use lib.ListN.{length, getD, take, drop}
 use Rattle.groups.specs.Groups.{count, gather}
 use Rattle.frame.specs.Shape.{size, width, lines}
 use Rattle.frame.specs.Structure.{leftOn}
-use Rattle.frame.specs.ChainRule.{nonzero}
+use Rattle.frame.specs.ChainRule.{nonzero, Group}
 
 -- ---- counted
 
@@ -28,6 +29,13 @@ runs shape structure cells = count (beginsRun shape structure cells) (size shape
 -- the run that a nonzero cell is of, by its number from 0 in C order: how many begin before the one that p is of
 unfoldable pub runOf : List ℕ → List ℕ → List Bool → ℕ → ℕ
 runOf shape structure cells p = count (beginsRun shape structure cells) (suc p) - 1
+
+-- r is the smallest run of p's group: one of its cells is of run r, and none is of a run before
+pub record SmallestRun (shape structure : List ℕ) (cells : List Bool) (p r : ℕ) : Type 0 where
+  pub cell : ℕ
+  pub of-group : Group shape structure cells p cell
+  pub of-run : runOf shape structure cells cell ≡ r
+  pub least : (q : ℕ) → Group shape structure cells p q → r ≤ runOf shape structure cells q
 
 -- ---- listed
 

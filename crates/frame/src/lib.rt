@@ -1,5 +1,22 @@
 // Frames, the chain rule, runs, causes, the plain session: specs/ has the definitions, proofs/ their laws. Of code there are only the
-// constants of the layout.
+// figures of an answer and the constants of the layout.
+ghost use mathlib.Core.Path.{_≡_};
+ghost use Rattle.frame.specs.Plain.{zeroFigures};
+
+// The figures that every accepted answer has, and a record keeps: runs and joins so far. Definitions and code have them as this one type.
+pub struct Figures {
+    pub runs: usize,
+    pub joins: usize,
+}
+
+impl Figures {
+    // Before any line is fed.
+    pub fn zero() -> Figures
+        ensures { λ r. ⌜ r ≡ zeroFigures ⌝ }
+    {
+        Figures { runs: 0, joins: 0 }
+    }
+}
 
 // Each run has STRIDE words. Counted from its first, which holds its start, END holds its end (one past), PARENT its parent and NAME
 // its name: specs/Words.antt.

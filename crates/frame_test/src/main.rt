@@ -22,22 +22,17 @@ struct Call {
 // ---- against the flood fill
 
 // What it should answer, given the cells of the frame, and its groups and runs.
-fn right_answer(call: Call, exact: usize, n: usize, runs: usize) -> Answer {
+fn right_answer(call: Call, exact: usize, count: flood::Count) -> Answer {
     if call.cells != exact {
         return answers::refused(8);
     }
     if call.places != exact {
         return answers::refused(9);
     }
-    if n > answers::largest(call.kinds % 4) {
+    if count.n > answers::largest(call.kinds % 4) {
         return answers::refused(10);
     }
-    Answer {
-        number: 0,
-        a: n,
-        b: runs,
-        c: less(runs, n),
-    }
+    answers::accepted(count.n, count)
 }
 
 // The words that it should leave, but for parents: a frame refused with 8 or 9 leaves them as they were, one refused with 10 as after
@@ -153,7 +148,7 @@ fn try_call(
     let e = flood::extent_of(shape, structure);
     let exact = times(e.lines, e.width);
     let all = flood::number_cells(e, structure, flags, exact, &mut marks);
-    let right = right_answer(call, exact, all.n, all.runs);
+    let right = right_answer(call, exact, all);
     let fed = fed_by(right.number, all);
     lay(&mut laid, e, flags, &marks, all.runs, right.number);
     try_all_blocks(

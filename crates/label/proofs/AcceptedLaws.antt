@@ -19,7 +19,7 @@ use Rattle.geo.proofs.ShapeSoundLaws.{bytes-few}
 use Rattle.label.specs.declared.Session.{Session}
 use Rattle.label.specs.Record.{shapeOf, linesOf}
 use Rattle.label.specs.Sound.{Sound, sound}
-use Rattle.label.specs.Held.{figuresOf, rootCount, numbersHeld, sizesHeld}
+use Rattle.label.specs.Held.{rootCount, numbersHeld, sizesHeld}
 use Rattle.label.specs.Opening.{openRecord, openWords, blank, OpenPromise}
 use Rattle.label.specs.Feeding.{feedRecord, feedCauseOf, FeedWords, FeedPromise}
 use Rattle.label.specs.Reading.{withNames, countedOf, readCauseOf, ReadPromise, sizesCauseOf, SizesPromise}
@@ -69,21 +69,21 @@ module _ (s : Session) (ws : List ℕ) (k : ℕ) (cells : List Bool) where
   accepted-session G a s′ ws′ P = P .session ∙ kept-new s (feedRecord s ws k cells) (feedCauseOf s ws k cells) (accepted-cause G)
 
   pub accepted-promise : FeedAccepted s ws k cells → (ws′ : List ℕ) → FeedWords s ws k cells ws′
-      → FeedPromise s ws k cells (fed (s .fed + k) (figuresOf (feedRecord s ws k cells))) (feedRecord s ws k cells) ws′
+      → FeedPromise s ws k cells (fed (s .fed + k) (feedRecord s ws k cells .figures)) (feedRecord s ws k cells) ws′
   accepted-promise G ws′ W = record {
-    said = sym (unless-none (feedCauseOf s ws k cells) (fed (s .fed + k) (figuresOf (feedRecord s ws k cells))) (accepted-cause G));
+    said = sym (unless-none (feedCauseOf s ws k cells) (fed (s .fed + k) (feedRecord s ws k cells .figures)) (accepted-cause G));
     session = sym (kept-new s (feedRecord s ws k cells) (feedCauseOf s ws k cells) (accepted-cause G));
     refusal = λ h. absurd (omega (arith, accepted-cause G));
     accepted = λ e. W;
   }
 
   -- it answers the figures of the record that it hands back
-  pub done-promise : FeedAccepted s ws k cells → (s′ : Session) (ws′ : List ℕ) → FeedDone s ws k cells s′ ws′ → (a : Answer) → a ≡ fed (s′ .fed) (figuresOf s′) → (s″ : Session) → s″ ≡ s′
+  pub done-promise : FeedAccepted s ws k cells → (s′ : Session) (ws′ : List ℕ) → FeedDone s ws k cells s′ ws′ → (a : Answer) → a ≡ fed (s′ .fed) (s′ .figures) → (s″ : Session) → s″ ≡ s′
       → FeedPromise s ws k cells a s″ ws′
   unfolding feedRecord
   done-promise G s′ ws′ D a said s″ same =
-      subst (λ (x : Answer). FeedPromise s ws k cells x s″ ws′) (sym (said ∙ ap (λ (x : Session). fed (x .fed) (figuresOf x)) (D .session)))
-      (subst (λ (x : Session). FeedPromise s ws k cells (fed (s .fed + k) (figuresOf (feedRecord s ws k cells))) x ws′) (sym (same ∙ D .session))
+      subst (λ (x : Answer). FeedPromise s ws k cells x s″ ws′) (sym (said ∙ ap (λ (x : Session). fed (x .fed) (x .figures)) (D .session)))
+      (subst (λ (x : Session). FeedPromise s ws k cells (fed (s .fed + k) (feedRecord s ws k cells .figures)) x ws′) (sym (same ∙ D .session))
       (accepted-promise G ws′ (D .words)))
 
 -- ---- reading, sizes
@@ -97,9 +97,9 @@ module _ (kind : Number) (s : Session) (ws : List ℕ) where
 
   -- it answers n as runs - joins
   pub read-promise : (out : List (Value kind)) → readCauseOf kind s ws (length out) ≡ 0 → (ws′ : List ℕ) (out′ : List (Value kind)) → (ws′ ≡ withNames s ws) × (out′ ≡ numbersHeld s ws kind)
-      → (a : Answer) → a ≡ counted (s .runs - s .joins) (figuresOf s) → (s′ : Session) → s′ ≡ s → ReadPromise kind s ws out a s′ ws′ out′
+      → (a : Answer) → a ≡ counted (s .figures .runs - s .figures .joins) (s .figures) → (s′ : Session) → s′ ≡ s → ReadPromise kind s ws out a s′ ws′ out′
   read-promise out e ws′ out′ W a said s′ same = record {
-    said = said ∙ ap (λ (n : ℕ). counted n (figuresOf s)) (sym (n-roots s ws (cause-read (length out) e .is-sound))) ∙ sym (unless-none (readCauseOf kind s ws (length out)) (countedOf s ws) e);
+    said = said ∙ ap (λ (n : ℕ). counted n (s .figures)) (sym (n-roots s ws (cause-read (length out) e .is-sound))) ∙ sym (unless-none (readCauseOf kind s ws (length out)) (countedOf s ws) e);
     session = same;
     words = W .0 ∙ sym (kept-new ws (withNames s ws) (readCauseOf kind s ws (length out)) e);
     output = W .1 ∙ sym (kept-new out (numbersHeld s ws kind) (readCauseOf kind s ws (length out)) e);
@@ -111,9 +111,9 @@ module _ (s : Session) (ws : List ℕ) where
   cause-sizes out e = let h = sizes-accepted (sound s ws) out (rootCount s ws) e in (sound-right s ws (h .0), h .1)
 
   pub sizes-promise : (out : List ℕ) → sizesCauseOf s ws (length out) ≡ 0 → (ws′ out′ : List ℕ) → (ws′ ≡ withNames s ws) × (out′ ≡ sizesHeld s ws)
-      → (a : Answer) → a ≡ counted (s .runs - s .joins) (figuresOf s) → (s′ : Session) → s′ ≡ s → SizesPromise s ws out a s′ ws′ out′
+      → (a : Answer) → a ≡ counted (s .figures .runs - s .figures .joins) (s .figures) → (s′ : Session) → s′ ≡ s → SizesPromise s ws out a s′ ws′ out′
   sizes-promise out e ws′ out′ W a said s′ same = record {
-    said = said ∙ ap (λ (n : ℕ). counted n (figuresOf s)) (sym (n-roots s ws (cause-sizes (length out) e .0))) ∙ sym (unless-none (sizesCauseOf s ws (length out)) (countedOf s ws) e);
+    said = said ∙ ap (λ (n : ℕ). counted n (s .figures)) (sym (n-roots s ws (cause-sizes (length out) e .0))) ∙ sym (unless-none (sizesCauseOf s ws (length out)) (countedOf s ws) e);
     session = same;
     words = W .0 ∙ sym (kept-new ws (withNames s ws) (sizesCauseOf s ws (length out)) e);
     output = W .1 ∙ sym (kept-new out (sizesHeld s ws) (sizesCauseOf s ws (length out)) e);

@@ -29,12 +29,12 @@ openings-right : map openNumber (O.Accepted ∷ O.Refused C.Memory ∷ []) ≡ 0
 openings-right = refl
 
 -- a feed's lines fed, runs and joins; a reading's n, runs and joins
-cases-right : feedAnswer (F.Accepted 3 5 4) ∷ feedAnswer (F.Refused C.Lines) ∷ readAnswer (R.Accepted 1 5 4) ∷ readAnswer (R.Refused C.Kind) ∷ [] ≡ fed 3 (f 5 4) ∷ refused 7 ∷ counted 1 (f 5 4) ∷ refused 10 ∷ []
+cases-right : feedAnswer (F.Accepted 3 (f 5 4)) ∷ feedAnswer (F.Refused C.Lines) ∷ readAnswer (R.Accepted 1 (f 5 4)) ∷ readAnswer (R.Refused C.Kind) ∷ [] ≡ fed 3 (f 5 4) ∷ refused 7 ∷ counted 1 (f 5 4) ∷ refused 10 ∷ []
 cases-right = refl
 
 -- ---- document 01's frame 1, fed line by line
 
-opens-right : begun ≡ record { number = 0; session = record { rank = 2; shape = 3 ∷ 3 ∷ 0 ∷ 0 ∷ []; structure = cross ++ replicate 72 0; fed = 0; runs = 0; joins = 0 }; words = 0 ∷ replicate 27 7 }
+opens-right : begun ≡ record { number = 0; session = record { rank = 2; shape = 3 ∷ 3 ∷ 0 ∷ 0 ∷ []; structure = cross ++ replicate 72 0; fed = 0; figures = record { runs = 0; joins = 0 } }; words = 0 ∷ replicate 27 7 }
 unfolding begun computed
 opens-right = refl
 
@@ -96,14 +96,14 @@ refusals-right = refl
 
 -- a frame of one line of three cells, with the left byte zero, fed; it has r runs
 abbrev apart : ℕ → Session
-apart r = record { rank = 1; shape = 3 ∷ 0 ∷ 0 ∷ 0 ∷ []; structure = replicate 81 0; fed = 1; runs = r; joins = 0 }
+apart r = record { rank = 1; shape = 3 ∷ 0 ∷ 0 ∷ 0 ∷ []; structure = replicate 81 0; fed = 1; figures = record { runs = r; joins = 0 } }
 
 -- each breaks a clause of document 01's "Unsound, exactly", in its order, and no other unless it is said
 unsound : List (Session × List ℕ)
 unsound =
     -- rank 0, rank 5
     (blank, replicate 28 0)
-    ∷ (record { rank = 5; shape = replicate 4 1; structure = replicate 81 0; fed = 0; runs = 0; joins = 0 }, replicate 28 0)
+    ∷ (record { rank = 5; shape = replicate 4 1; structure = replicate 81 0; fed = 0; figures = record { runs = 0; joins = 0 } }, replicate 28 0)
     -- a leading dimension is 0
     ∷ (openRecord (0 ∷ 3 ∷ []) cross, replicate 28 0)
     -- w and L at their limits, L × w one above
@@ -154,7 +154,7 @@ accepted =
     ∷ (two .session, set (put 3 9) 20 9)
     ∷ (two .session, two .words ++ replicate 5 9)
     -- entries past the rank
-    ∷ (record { rank = 2; shape = 3 ∷ 3 ∷ 9 ∷ 9 ∷ []; structure = cross ++ replicate 72 9; fed = 2; runs = 4; joins = 2 }, two .words)
+    ∷ (record { rank = 2; shape = 3 ∷ 3 ∷ 9 ∷ 9 ∷ []; structure = cross ++ replicate 72 9; fed = 2; figures = record { runs = 4; joins = 2 } }, two .words)
     -- runs 0 and 1 in one group, which no chain joins; and longer ways to a root
     ∷ (held 2 4 3, put 10 0)
     ∷ (held 2 4 3, set (put 10 0) 18 2)

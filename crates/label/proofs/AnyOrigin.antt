@@ -48,16 +48,16 @@ module _ (s : Session) (ws : List ℕ) (S : Sound s ws) where
   H = sound-stores s ws S
 
   -- the runs of the cells
-  O : Onto (nonzero cells) (Step shape structure cells) (size shape) (RunStep shape structure cells) (s .runs) (runOf shape structure cells) start
+  O : Onto (nonzero cells) (Step shape structure cells) (size shape) (RunStep shape structure cells) (s .figures .runs) (runOf shape structure cells) start
   O = subst (λ (n : ℕ). Onto (nonzero cells) (Step shape structure cells) (size shape) (RunStep shape structure cells) n (runOf shape structure cells) start) (sym (runs-held s ws S)) (runs-onto shape structure cells (fits-size shape (s .fed) cells (H .fits)))
 
   -- the run that holds the cell where run r starts is r
-  start-held : (r : ℕ) → r < s .runs → holderOf s ws (start r) ≡ r
+  start-held : (r : ℕ) → r < s .figures .runs → holderOf s ws (start r) ≡ r
   start-held r h = stores-holder s ws cells H (start r) (O .start-live r h) ∙ O .run-start r h
 
-  ends : (r t : ℕ) → Joined es r t → (r < s .runs) × (t < s .runs)
-  ends r t (inl m) = mem-ends (λ r. r < s .runs) es (grouping-ends (parentOf (linesOf s) ws) (s .runs) (S .words .parents)) _ m
-  ends r t (inr m) = let e = mem-ends (λ r. r < s .runs) es (grouping-ends (parentOf (linesOf s) ws) (s .runs) (S .words .parents)) _ m in (e .1, e .0)
+  ends : (r t : ℕ) → Joined es r t → (r < s .figures .runs) × (t < s .figures .runs)
+  ends r t (inl m) = mem-ends (λ r. r < s .figures .runs) es (grouping-ends (parentOf (linesOf s) ws) (s .figures .runs) (S .words .parents)) _ m
+  ends r t (inr m) = let e = mem-ends (λ r. r < s .figures .runs) es (grouping-ends (parentOf (linesOf s) ws) (s .figures .runs) (S .words .parents)) _ m in (e .1, e .0)
 
   flip : (p q : ℕ) → HeldStep s ws p q → HeldStep s ws q p
   flip p q t = record { here = t .there; there = t .here; way = go (t .way) }
@@ -81,7 +81,7 @@ module _ (s : Session) (ws : List ℕ) (S : Sound s ws) where
       let k : Joined es (holderOf s ws (start r)) (holderOf s ws (start t)) = rw (start-held r (e .0), start-held t (e .1)) j in
       more (record { here = O .start-live r (e .0); there = O .start-live t (e .1); way = inr k }) one
 
-  held-onto : Onto (nonzero cells) (HeldStep s ws) (size shape) (Joined es) (s .runs) (holderOf s ws) start
+  held-onto : Onto (nonzero cells) (HeldStep s ws) (size shape) (Joined es) (s .figures .runs) (holderOf s ws) start
   held-onto = record {
     flip = flip;
     run-below = λ p h a. rw (stores-holder s ws cells H p a) (stores-below s ws cells H p a);
@@ -96,14 +96,14 @@ module _ (s : Session) (ws : List ℕ) (S : Sound s ws) where
     inside = λ r t j. ends r t j .1;
   }
     where
-      below : (p : ℕ) → nonzero cells p ≡ true → holderOf s ws p < s .runs
+      below : (p : ℕ) → nonzero cells p ≡ true → holderOf s ws p < s .figures .runs
       below p a = rw (stores-holder s ws cells H p a) (stores-below s ws cells H p a)
 
   number-held : (p : ℕ) → p < size shape → cond (nonzero cells p) (number (λ r. true) es (holderOf s ws p)) 0 ≡ numberAt s ws p
   number-held p h = go (nonzero cells p) refl
     where
       by-root : nonzero cells p ≡ true → number (λ r. true) es (holderOf s ws p) ≡ numberIn (parentOf (linesOf s) ws) (holderOf s ws p)
-      by-root a = sym (number-groups (parentOf (linesOf s) ws) (s .runs) (S .words .parents) es (λ r l. sym (grouping-rep (parentOf (linesOf s) ws) (s .runs) (S .words .parents) r l)) (holderOf s ws p) (rw (stores-holder s ws cells H p a) (stores-below s ws cells H p a)))
+      by-root a = sym (number-groups (parentOf (linesOf s) ws) (s .figures .runs) (S .words .parents) es (λ r l. sym (grouping-rep (parentOf (linesOf s) ws) (s .figures .runs) (S .words .parents) r l)) (holderOf s ws p) (rw (stores-holder s ws cells H p a) (stores-below s ws cells H p a)))
 
       go : (b : Bool) → nonzero cells p ≡ b → cond (nonzero cells p) (number (λ r. true) es (holderOf s ws p)) 0 ≡ numberAt s ws p
       go true a = unfold numberAt in rw (a, by-root a) refl
@@ -114,4 +114,4 @@ module _ (s : Session) (ws : List ℕ) (S : Sound s ws) where
   any-numbered =
       numbered-same _ (numberAt s ws) number-held
       (subst (λ (n : ℕ). Numbered (nonzero cells) (HeldStep s ws) (size shape) n (λ p. cond (nonzero cells p) (number (λ r. true) es (holderOf s ws p)) 0)) (sym (n-groups s ws S))
-      (by-runs held-onto _ _ (number-right (λ r. true) es (all-live es) (s .runs))))
+      (by-runs held-onto _ _ (number-right (λ r. true) es (all-live es) (s .figures .runs))))

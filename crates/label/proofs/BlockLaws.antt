@@ -26,7 +26,7 @@ use Rattle.label.specs.declared.Session.{Session}
 use Rattle.label.specs.Record.{shapeOf, structureOf, linesOf, withFigures}
 use Rattle.label.specs.Sound.{Sound}
 use Rattle.label.specs.Held.{cellsOf, groupingOf}
-use Rattle.label.specs.Feeding.{runsAfter, feedTouches, feedEdges, feedRecord, FeedWords, FeedPromise}
+use Rattle.label.specs.Feeding.{runsAfter, feedTouches, feedEdges, figuresAfter, feedRecord, FeedWords, FeedPromise}
 use Rattle.label.specs.WholeFrame.{chop, blockLines, blocks, Fills, no-more, block}
 use Rattle.label.specs.Steps.{FeedAccepted}
 use Rattle.label.proofs.AcceptedLaws.{accepted-cause, accepted-session}
@@ -143,16 +143,15 @@ module _ (s : Session) (ws : List ℕ) (S : Sound s ws) (k : ℕ) (more : List B
   -- ---- the record
 
   pub record-both : feedRecord (feedRecord s ws k more) ws₁ j rest ≡ feedRecord s ws (k + j) (more ++ rest)
-  record-both =
-      first
-      ∙ ap₂ (λ (f : ℕ) (r : ℕ). withFigures s f r (joins (feedEdges s₁ ws₁ j rest))) lines-are runs-both
-      ∙ ap (λ (x : ℕ). withFigures s (s .fed + (k + j)) (runsAfter s (more ++ rest)) x) joins-both
-      ∙ last
+  record-both = first ∙ ap₂ (withFigures s) lines-are figures-both ∙ last
     where
-      first : feedRecord s₁ ws₁ j rest ≡ withFigures s (s .fed + k + j) (runsAfter s₁ rest) (joins (feedEdges s₁ ws₁ j rest))
+      figures-both : figuresAfter s₁ ws₁ j rest ≡ figuresAfter s ws (k + j) (more ++ rest)
+      figures-both = ap₂ (λ (r : ℕ) (j : ℕ). record { runs = r; joins = j }) runs-both joins-both
+
+      first : feedRecord s₁ ws₁ j rest ≡ withFigures s (s .fed + k + j) (figuresAfter s₁ ws₁ j rest)
       first = unfold feedRecord in refl
 
-      last : withFigures s (s .fed + (k + j)) (runsAfter s (more ++ rest)) (joins (feedEdges s ws (k + j) (more ++ rest))) ≡ feedRecord s ws (k + j) (more ++ rest)
+      last : withFigures s (s .fed + (k + j)) (figuresAfter s ws (k + j) (more ++ rest)) ≡ feedRecord s ws (k + j) (more ++ rest)
       last = unfold feedRecord in refl
 
   -- ---- the words
@@ -167,7 +166,7 @@ module _ (s : Session) (ws : List ℕ) (S : Sound s ws) (k : ℕ) (more : List B
   lines-room = room-lines s ws cells H (k + j) (more ++ rest) few-both whole-both (S .shape .memory)
 
   -- the new runs come after those before
-  runs-rise : s .runs ≤ runsAfter s more
+  runs-rise : s .figures .runs ≤ runsAfter s more
   unfolding runsAfter
   runs-rise = omega arith
 

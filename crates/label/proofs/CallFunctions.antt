@@ -14,7 +14,7 @@ use Rattle.frame.specs.Words.{parentPlace}
 use Rattle.frame.specs.Lists.{setAll}
 use Rattle.label.specs.declared.Session.{Session}
 use Rattle.label.specs.Record.{linesOf}
-use Rattle.label.specs.Held.{figuresOf, numbersHeld, sizesHeld}
+use Rattle.label.specs.Held.{numbersHeld, sizesHeld}
 use Rattle.label.specs.Opening.{openRecord, openWords, blank}
 use Rattle.label.specs.Feeding.{runsAfter, feedEdges, feedRecord, withRuns, feedCauseOf}
 use Rattle.label.specs.Reading.{withNames, countedOf, readCauseOf, sizesCauseOf}
@@ -62,7 +62,7 @@ unfoldable pub doFeed : Session → List ℕ → ℕ → List Bool → FeedResul
 doFeed s ws k cells =
     let cause = feedCauseOf s ws k cells in
     record {
-      said = unless cause (fed (s .fed + k) (figuresOf (feedRecord s ws k cells)));
+      said = unless cause (fed (s .fed + k) (feedRecord s ws k cells .figures));
       session = kept cause s (feedRecord s ws k cells);
       words = kept cause ws (feedWords s ws k cells);
     }

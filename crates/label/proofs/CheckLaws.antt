@@ -82,14 +82,14 @@ module _ (s : Session) (ws : List ℕ) (r : Checked) (F : RecordFound s (soundCa
         geometry = λ no-cause. K;
       }
 
-      pub read-found : (kind : Number) (out : ℕ) → checkNumber check ≡ readCause true out (r .geo .lines * r .geo .width) (holds kind (s .runs - s .joins)) → RecordFound s (readCauseOf kind s ws out) (record { check = check; geo = r .geo })
+      pub read-found : (kind : Number) (out : ℕ) → checkNumber check ≡ readCause true out (r .geo .lines * r .geo .width) (holds kind (s .figures .runs - s .figures .joins)) → RecordFound s (readCauseOf kind s ws out) (record { check = check; geo = r .geo })
       unfolding readCauseOf
       read-found kind out e = record {
         number = e ∙ rw (geo-size s ws (r .geo) K, yes, n-roots s ws found-sound) refl;
         geometry = λ no-cause. K;
       }
 
-      pub sizes-found : (out : ℕ) → checkNumber check ≡ sizesCause true out (s .runs - s .joins) → RecordFound s (sizesCauseOf s ws out) (record { check = check; geo = r .geo })
+      pub sizes-found : (out : ℕ) → checkNumber check ≡ sizesCause true out (s .figures .runs - s .figures .joins) → RecordFound s (sizesCauseOf s ws out) (record { check = check; geo = r .geo })
       unfolding sizesCauseOf
       sizes-found out e = record {
         number = e ∙ rw (yes, n-roots s ws found-sound) refl;

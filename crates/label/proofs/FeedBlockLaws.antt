@@ -36,7 +36,7 @@ use Rattle.label.specs.declared.Session.{Session}
 use Rattle.label.specs.Record.{shapeOf, structureOf, linesOf, withFigures}
 use Rattle.label.specs.Sound.{Sound}
 use Rattle.label.specs.Held.{cellsOf}
-use Rattle.label.specs.Feeding.{feedCauseOf, runsAfter, startAfter, runAfter, feedTouches, feedEdges, feedRecord, FeedWords}
+use Rattle.label.specs.Feeding.{feedCauseOf, runsAfter, startAfter, runAfter, feedTouches, feedEdges, figuresAfter, feedRecord, FeedWords}
 use Rattle.label.specs.Steps.{RecordFound, FeedAccepted, FeedExtracted, FeedDone}
 use Rattle.label.proofs.AcceptedLaws.{accepted-fits, cause-accepted}
 use Rattle.label.proofs.RecordGeometry.{geo-lines, geo-width, geo-left}
@@ -92,7 +92,7 @@ module _ (s : Session) (ws : List ℕ) (k : ℕ) (more : List Bool) (G : FeedAcc
   new-runs : length (linesRuns left w more k) ≡ runs shape structure more
   new-runs = lines-length k ∙ sym (runs-all shape structure more k F)
 
-  after-is : s .runs + length (linesRuns left w more k) ≡ runsAfter s more
+  after-is : s .figures .runs + length (linesRuns left w more k) ≡ runsAfter s more
   unfolding runsAfter
   after-is = omega (arith, new-runs)
 
@@ -109,7 +109,7 @@ module _ (s : Session) (ws : List ℕ) (k : ℕ) (more : List Bool) (G : FeedAcc
   pub feed-lines-fit : s .fed + k < 4294967293
   feed-lines-fit = omega (arith, below, limits s ws S .1)
 
-  pub block-room : BlockRoom left w L (s .fed) (s .runs) k more ws
+  pub block-room : BlockRoom left w L (s .fed) (s .figures .runs) k more ws
   block-room = record {
     whole = G .whole;
     within = below;
@@ -118,7 +118,7 @@ module _ (s : Session) (ws : List ℕ) (k : ℕ) (more : List Bool) (G : FeedAcc
     small = rw after-is (omega (arith, few));
   }
 
-  module _ (ws₁ : List ℕ) (n : ℕ) (B : Block left w L (s .fed) (s .runs) k more ws ws₁ n) where
+  module _ (ws₁ : List ℕ) (n : ℕ) (B : Block left w L (s .fed) (s .figures .runs) k more ws ws₁ n) where
     pub extracted-count : n ≡ runsAfter s more
     extracted-count = B .counted ∙ after-is
 
@@ -126,14 +126,14 @@ module _ (s : Session) (ws : List ℕ) (k : ℕ) (more : List Bool) (G : FeedAcc
     stands : (j : ℕ) → Aside s k more j → getD ws₁ j 0 ≡ getD ws j 0
     stands j A = B .others j (record {
       no-line = A .no-line;
-      no-start = λ r h. A .no-start (s .runs + r) (omega arith) (omega (arith, h, after-is));
-      no-end = λ r h. A .no-end (s .runs + r) (omega arith) (omega (arith, h, after-is));
+      no-start = λ r h. A .no-start (s .figures .runs + r) (omega arith) (omega (arith, h, after-is));
+      no-end = λ r h. A .no-end (s .figures .runs + r) (omega arith) (omega (arith, h, after-is));
     })
 
     old-line : (ℓ : ℕ) → ℓ ≤ s .fed → lineStart ws₁ ℓ ≡ lineStart ws ℓ
     old-line ℓ h = let f = S .shape .within in stands ℓ (record { no-line = λ i l e. omega arith; no-start = λ r a b e. omega arith; no-end = λ r a b e. omega arith })
 
-    old-run : (r : ℕ) → r < s .runs → storedRun L ws₁ r ≡ storedRun L ws r
+    old-run : (r : ℕ) → r < s .figures .runs → storedRun L ws₁ r ≡ storedRun L ws r
     old-run r h =
         ap₂ (λ (x : ℕ) (y : ℕ). record { start = x; end = y })
         (stands (startPlace L r) (record { no-line = λ i l e. omega (arith, below); no-start = λ x a b e. omega arith; no-end = λ x a b e. omega arith }))
@@ -146,28 +146,28 @@ module _ (s : Session) (ws : List ℕ) (k : ℕ) (more : List Bool) (G : FeedAcc
     unfolding startAfter
     line-after ℓ h = go (leb ℓ (s .fed)) refl
       where
-        go : (b : Bool) → leb ℓ (s .fed) ≡ b → lineStart ws₁ ℓ ≡ cond b (lineStart ws ℓ) (s .runs + runsBefore shape structure more (ℓ - s .fed))
+        go : (b : Bool) → leb ℓ (s .fed) ≡ b → lineStart ws₁ ℓ ≡ cond b (lineStart ws ℓ) (s .figures .runs + runsBefore shape structure more (ℓ - s .fed))
         go true e = old-line ℓ (leb-true ℓ (s .fed) e)
         go false e =
             let l = leb-false ℓ (s .fed) e in
             let i : ℓ - s .fed - 1 < k = omega arith in
             let q : s .fed + suc (ℓ - s .fed - 1) ≡ ℓ = omega arith in
             let d : suc (ℓ - s .fed - 1) ≡ ℓ - s .fed = omega arith in
-            subst (λ (x : ℕ). lineStart ws₁ x ≡ s .runs + runsBefore shape structure more (ℓ - s .fed)) q
-            (B .lined (ℓ - s .fed - 1) i ∙ ap (λ (x : ℕ). s .runs + x) (lines-length (suc (ℓ - s .fed - 1)) ∙ ap (runsBefore shape structure more) d))
+            subst (λ (x : ℕ). lineStart ws₁ x ≡ s .figures .runs + runsBefore shape structure more (ℓ - s .fed)) q
+            (B .lined (ℓ - s .fed - 1) i ∙ ap (λ (x : ℕ). s .figures .runs + x) (lines-length (suc (ℓ - s .fed - 1)) ∙ ap (runsBefore shape structure more) d))
 
     run-after : (r : ℕ) → r < runsAfter s more → storedRun L ws₁ r ≡ runAfter s ws more r
     unfolding runAfter
-    run-after r h = go (ltb r (s .runs)) refl
+    run-after r h = go (ltb r (s .figures .runs)) refl
       where
-        go : (b : Bool) → ltb r (s .runs) ≡ b → storedRun L ws₁ r ≡ cond b (storedRun L ws r) (frameRun shape structure more (r - s .runs))
-        go true e = old-run r (ltb-true r (s .runs) e)
+        go : (b : Bool) → ltb r (s .figures .runs) ≡ b → storedRun L ws₁ r ≡ cond b (storedRun L ws r) (frameRun shape structure more (r - s .figures .runs))
+        go true e = old-run r (ltb-true r (s .figures .runs) e)
         go false e =
-            let l = ltb-false r (s .runs) e in
-            let i : r - s .runs < length (linesRuns left w more k) = omega (arith, after-is, h) in
-            let q : s .runs + (r - s .runs) ≡ r = omega arith in
-            subst (λ (x : ℕ). storedRun L ws₁ x ≡ frameRun shape structure more (r - s .runs)) q
-            (B .ran (r - s .runs) i ∙ ap (λ (us : List Run). getD us (r - s .runs) none) (lines-runs k) ∙ sym (run-first shape structure more k (r - s .runs) (F .below) (rw (← lines-length k) i)))
+            let l = ltb-false r (s .figures .runs) e in
+            let i : r - s .figures .runs < length (linesRuns left w more k) = omega (arith, after-is, h) in
+            let q : s .figures .runs + (r - s .figures .runs) ≡ r = omega arith in
+            subst (λ (x : ℕ). storedRun L ws₁ x ≡ frameRun shape structure more (r - s .figures .runs)) q
+            (B .ran (r - s .figures .runs) i ∙ ap (λ (us : List Run). getD us (r - s .figures .runs) none) (lines-runs k) ∙ sym (run-first shape structure more k (r - s .figures .runs) (F .below) (rw (← lines-length k) i)))
 
     wrote₁ : Wrote s ws k more ws₁
     wrote₁ = record { lined = line-after; ran = run-after; stands = λ j A free. stands j A }
@@ -176,7 +176,7 @@ module _ (s : Session) (ws : List ℕ) (k : ℕ) (more : List Bool) (G : FeedAcc
     stores₁ = wrote-stores s ws cells H k more (G .few) (G .whole) ws₁ wrote₁
 
     -- the runs before the new lines, and all of them
-    fed-start : lineStart ws₁ (s .fed) ≡ s .runs
+    fed-start : lineStart ws₁ (s .fed) ≡ s .figures .runs
     fed-start = old-line (s .fed) (le-refl (s .fed)) ∙ S .words .last
 
     last-start : lineStart ws₁ (s .fed + k) ≡ runsAfter s more
@@ -238,7 +238,7 @@ module _ (s : Session) (ws : List ℕ) (k : ℕ) (more : List Bool) (G : FeedAcc
       module _ (ws₂ : List ℕ) (t : ℕ) (U : BlockUnited (g .leads) (g .dims) L (s .structure) ws₁ ws₂ (s .fed) k t) where
         edges-are : visit (touchesFrom (g .leads) (g .dims) L (s .structure) ws₁ (s .fed) k) (grouping (parentOf L ws₁) (lineStart ws₁ (s .fed))) ≡ feedEdges s ws k more
         unfolding feedEdges
-        edges-are = ap₂ visit touches-are (ap (grouping (parentOf L ws₁)) fed-start ∙ grouping-same (parentOf L ws₁) (parentOf L ws) (s .runs) (λ r h. parents-stand r))
+        edges-are = ap₂ visit touches-are (ap (grouping (parentOf L ws₁)) fed-start ∙ grouping-same (parentOf L ws₁) (parentOf L ws) (s .figures .runs) (λ r h. parents-stand r))
 
         others : (j : ℕ) → NoParent L (runsAfter s more) j → getD ws₂ j 0 ≡ getD ws₁ j 0
         others j free = U .others j (rw last-start free)
@@ -263,18 +263,18 @@ module _ (s : Session) (ws : List ℕ) (k : ℕ) (more : List Bool) (G : FeedAcc
           no-lines = λ z. U .no-lines z ∙ none-written z;
         }
 
-        pub block-joins : s .joins + t ≡ joins (feedEdges s ws k more)
+        pub block-joins : s .figures .joins + t ≡ joins (feedEdges s ws k more)
         block-joins =
-            let before : joins (grouping (parentOf L ws₁) (lineStart ws₁ (s .fed))) ≡ s .joins = ap joins (ap (grouping (parentOf L ws₁)) fed-start ∙ grouping-same (parentOf L ws₁) (parentOf L ws) (s .runs) (λ r h. parents-stand r)) ∙ grouping-joins (parentOf L ws) (s .runs) (S .words .parents) ∙ sym (S .words .join-count) in
+            let before : joins (grouping (parentOf L ws₁) (lineStart ws₁ (s .fed))) ≡ s .figures .joins = ap joins (ap (grouping (parentOf L ws₁)) fed-start ∙ grouping-same (parentOf L ws₁) (parentOf L ws) (s .figures .runs) (λ r h. parents-stand r)) ∙ grouping-joins (parentOf L ws) (s .figures .runs) (S .words .parents) ∙ sym (S .words .join-count) in
             omega (arith, U .counted, before, ap joins edges-are)
 
 -- ---- the same, in the names of the record's geometry
 
 module _ (s : Session) (ws : List ℕ) (k : ℕ) (more : List Bool) (G : FeedAccepted s ws k more) (g : Geo) (K : GeoOf (s .rank) (s .shape) (s .structure) g) where
-  pub feed-room : RoomFor g (s .fed) (s .runs) k more ws
+  pub feed-room : RoomFor g (s .fed) (s .figures .runs) k more ws
   feed-room = rw (geo-left s ws g K, geo-width s ws g K, geo-lines s ws g K) (block-room s ws k more G)
 
-  pub feed-extracted : (ws₁ : List ℕ) (n : ℕ) → Extracts g (s .fed) (s .runs) k more ws ws₁ n → FeedExtracted s ws k more g ws₁ n
+  pub feed-extracted : (ws₁ : List ℕ) (n : ℕ) → Extracts g (s .fed) (s .figures .runs) k more ws ws₁ n → FeedExtracted s ws k more g ws₁ n
   feed-extracted ws₁ n B = record { given = G; geometry = K; block = rw (← geo-left s ws g K, ← geo-width s ws g K, ← geo-lines s ws g K) B }
 
 -- so where the check of a feed passed
@@ -285,10 +285,10 @@ module _ (s : Session) (ws : List ℕ) (k : ℕ) (more : List Bool) (r : Checked
   pub found-given : FeedAccepted s ws k more
   found-given = cause-accepted s ws k more no-cause
 
-  pub found-room : RoomFor (r .geo) (s .fed) (s .runs) k more ws
+  pub found-room : RoomFor (r .geo) (s .fed) (s .figures .runs) k more ws
   found-room = feed-room s ws k more found-given (r .geo) (F .geometry no-cause)
 
-  pub found-extracted : (ws₁ : List ℕ) (n : ℕ) → Extracts (r .geo) (s .fed) (s .runs) k more ws ws₁ n → FeedExtracted s ws k more (r .geo) ws₁ n
+  pub found-extracted : (ws₁ : List ℕ) (n : ℕ) → Extracts (r .geo) (s .fed) (s .figures .runs) k more ws ws₁ n → FeedExtracted s ws k more (r .geo) ws₁ n
   found-extracted ws₁ n B = feed-extracted s ws k more found-given (r .geo) (F .geometry no-cause) ws₁ n B
 
 module _ (s : Session) (ws : List ℕ) (k : ℕ) (more : List Bool) (g : Geo) (ws₁ : List ℕ) (n : ℕ) (X : FeedExtracted s ws k more g ws₁ n) (long : 3 ^ s .rank ≤ length (s .structure)) where
@@ -305,11 +305,11 @@ module _ (s : Session) (ws : List ℕ) (k : ℕ) (more : List Bool) (g : Geo) (w
     W : FeedWords s ws k more ws₂
     W = block-words s ws k more (X .given) ws₁ n (X .block) g K long ws₂ t united
 
-    joins-are : s .joins + t ≡ joins (feedEdges s ws k more)
+    joins-are : s .figures .joins + t ≡ joins (feedEdges s ws k more)
     joins-are = block-joins s ws k more (X .given) ws₁ n (X .block) g K long ws₂ t united
 
     -- the joins are a number of 64 bits, as the lines are
-    pub feed-joins-fit : s .joins + t < 4294967293
+    pub feed-joins-fit : s .figures .joins + t < 4294967293
     unfolding nonRoots
     feed-joins-fit =
         let G = X .given in
@@ -317,9 +317,10 @@ module _ (s : Session) (ws : List ℕ) (k : ℕ) (more : List Bool) (g : Geo) (w
         let p = parentOf (linesOf s) ws₂ in
         omega (arith, joins-are, joins-after s ws (cellsOf s ws) (sound-stores s ws S) k more (G .few) (G .whole) (S .shape .memory) ws₂ W (S .words .parents), count-most (λ r. not (own p r)) (runsAfter s more), few s ws k more G)
 
-    pub feed-done : FeedDone s ws k more (withFigures s (s .fed + k) n (s .joins + t)) ws₂
+    pub feed-done : FeedDone s ws k more (withFigures s (s .fed + k) (record { runs = n; joins = s .figures .joins + t })) ws₂
     unfolding feedRecord
-    feed-done = record {
-      session = ap₂ (λ (r : ℕ) (j : ℕ). withFigures s (s .fed + k) r j) (extracted-count s ws k more (X .given) ws₁ n (X .block)) joins-are;
-      words = W;
-    }
+    feed-done = record { session = ap (withFigures s (s .fed + k)) figures-are; words = W }
+      where
+        figures-are : record { runs = n; joins = s .figures .joins + t } ≡ figuresAfter s ws k more
+        figures-are =
+            ap₂ (λ (r : ℕ) (j : ℕ). record { runs = r; joins = j }) (extracted-count s ws k more (X .given) ws₁ n (X .block)) joins-are

@@ -77,7 +77,7 @@ module _ (s : Session) (ws : List ℕ) (cells : List Bool) (H : Stores s ws cell
   unfolding startAfter
   start-after ℓ h = go (leb ℓ (s .fed)) refl
     where
-      go : (b : Bool) → leb ℓ (s .fed) ≡ b → cond b (lineStart ws ℓ) (s .runs + runsBefore shape structure more (ℓ - s .fed)) ≡ S′ ℓ
+      go : (b : Bool) → leb ℓ (s .fed) ≡ b → cond b (lineStart ws ℓ) (s .figures .runs + runsBefore shape structure more (ℓ - s .fed)) ≡ S′ ℓ
       go true e = let l = leb-true ℓ (s .fed) e in H .starts ℓ l ∙ sym (starts-stay shape structure cells more (s .fed) (H .fits) ℓ l)
       go false e =
           let l = leb-false ℓ (s .fed) e in
@@ -86,15 +86,15 @@ module _ (s : Session) (ws : List ℕ) (cells : List Bool) (H : Stores s ws cell
 
   pub run-after : (r : ℕ) → r < runsAfter s more → runAfter s ws more r ≡ run′ r
   unfolding runAfter
-  run-after r h = go (ltb r (s .runs)) refl
+  run-after r h = go (ltb r (s .figures .runs)) refl
     where
-      go : (b : Bool) → ltb r (s .runs) ≡ b → cond b (storedRun L ws r) (frameRun shape structure more (r - s .runs)) ≡ run′ r
-      go true e = let l = ltb-true r (s .runs) e in H .listed r l ∙ sym (run-stays shape structure cells more (s .fed) (H .fits) r (rw (← H .runs-are) l))
+      go : (b : Bool) → ltb r (s .figures .runs) ≡ b → cond b (storedRun L ws r) (frameRun shape structure more (r - s .figures .runs)) ≡ run′ r
+      go true e = let l = ltb-true r (s .figures .runs) e in H .listed r l ∙ sym (run-stays shape structure cells more (s .fed) (H .fits) r (rw (← H .runs-are) l))
       go false e =
-          let l = ltb-false r (s .runs) e in
-          let q : runsBefore shape structure cells (s .fed) + (r - s .runs) ≡ r = omega (arith, H .runs-are) in
-          let less : r - s .runs < runsBefore shape structure more k = omega (arith, runs-after, H .runs-are, starts-new shape structure cells more (s .fed) (H .fits) k) in
-          sym (run-new shape structure cells more (s .fed) (H .fits) k (r - s .runs) below less) ∙ ap run′ q
+          let l = ltb-false r (s .figures .runs) e in
+          let q : runsBefore shape structure cells (s .fed) + (r - s .figures .runs) ≡ r = omega (arith, H .runs-are) in
+          let less : r - s .figures .runs < runsBefore shape structure more k = omega (arith, runs-after, H .runs-are, starts-new shape structure cells more (s .fed) (H .fits) k) in
+          sym (run-new shape structure cells more (s .fed) (H .fits) k (r - s .figures .runs) below less) ∙ ap run′ q
 
   -- ---- touches
 
@@ -139,13 +139,13 @@ module _ (s : Session) (ws : List ℕ) (cells : List Bool) (H : Stores s ws cell
 
       -- ---- the grouping
 
-      module _ (low : (r : ℕ) → r < s .runs → parentOf L ws r ≤ r) where
+      module _ (low : (r : ℕ) → r < s .figures .runs → parentOf L ws r ≤ r) where
         pub edges-ends : Ends (λ r. r < runsAfter s more) (feedEdges s ws k more)
         unfolding feedEdges
         edges-ends =
             ends-visit (λ r. r < runsAfter s more) (feedTouches s ws k more) (groupingOf s ws) touches-ends
             (ends-all (λ r. r < runsAfter s more) (groupingOf s ws) (λ e m.
-            let o = mem-ends (λ r. r < s .runs) (groupingOf s ws) (grouping-ends (parentOf L ws) (s .runs) low) e m in
+            let o = mem-ends (λ r. r < s .figures .runs) (groupingOf s ws) (grouping-ends (parentOf L ws) (s .figures .runs) low) e m in
             (unfold runsAfter in omega (arith, o .0), unfold runsAfter in omega (arith, o .1))))
 
         groups-after : groups (λ r. true) (feedEdges s ws k more) (runsAfter s more) + joins (feedEdges s ws k more) ≡ runsAfter s more

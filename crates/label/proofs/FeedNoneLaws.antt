@@ -19,7 +19,7 @@ use Rattle.label.specs.declared.Session.{Session}
 use Rattle.label.specs.Record.{shapeOf, structureOf, linesOf, withFigures}
 use Rattle.label.specs.Sound.{Sound}
 use Rattle.label.specs.Held.{groupingOf}
-use Rattle.label.specs.Feeding.{runsAfter, feedTouches, feedEdges, feedRecord, withLines, withRuns, feedCauseOf, FeedWords, FeedPromise}
+use Rattle.label.specs.Feeding.{runsAfter, feedTouches, feedEdges, figuresAfter, feedRecord, withLines, withRuns, feedCauseOf, FeedWords, FeedPromise}
 use Rattle.label.specs.Steps.{FeedAccepted}
 use Rattle.label.proofs.AcceptedLaws.{cause-accepted, accepted-fits, accepted-session}
 
@@ -30,7 +30,7 @@ module _ (s : Session) (ws : List ℕ) (cells : List Bool) (G : FeedAccepted s w
   no-runs : runs (shapeOf s) (structureOf s) cells ≡ 0
   no-runs = runs-all (shapeOf s) (structureOf s) cells 0 (accepted-fits s ws 0 cells G) ∙ start-zero (shapeOf s) (structureOf s) cells
 
-  same-runs : runsAfter s cells ≡ s .runs
+  same-runs : runsAfter s cells ≡ s .figures .runs
   unfolding runsAfter
   same-runs = omega (arith, no-runs)
 
@@ -47,18 +47,19 @@ module _ (s : Session) (ws : List ℕ) (cells : List Bool) (G : FeedAccepted s w
     long = refl;
     others = λ j free. rw same-words;
     parents = λ r h. S .words .parents r (rw (← same-runs) h);
-    grouped = λ r h. rw same-edges (sym (grouping-rep (parentOf (linesOf s) ws) (s .runs) (S .words .parents) r (rw (← same-runs) h)));
+    grouped = λ r h. rw same-edges (sym (grouping-rep (parentOf (linesOf s) ws) (s .figures .runs) (S .words .parents) r (rw (← same-runs) h)));
     no-lines = λ e. refl;
   }
 
-  same-joins : joins (feedEdges s ws 0 cells) ≡ s .joins
-  same-joins = ap joins same-edges ∙ grouping-joins (parentOf (linesOf s) ws) (s .runs) (S .words .parents) ∙ sym (S .words .join-count)
+  same-joins : joins (feedEdges s ws 0 cells) ≡ s .figures .joins
+  same-joins = ap joins same-edges ∙ grouping-joins (parentOf (linesOf s) ws) (s .figures .runs) (S .words .parents) ∙ sym (S .words .join-count)
+
+  same-figures : figuresAfter s ws 0 cells ≡ s .figures
+  same-figures = ap₂ (λ (r : ℕ) (j : ℕ). record { runs = r; joins = j }) same-runs same-joins
 
   pub record-none : feedRecord s ws 0 cells ≡ s
   unfolding feedRecord
-  record-none =
-      ap₂ (λ (f : ℕ) (r : ℕ). withFigures s f r (joins (feedEdges s ws 0 cells))) (add-zero (s .fed)) same-runs
-      ∙ ap (λ (j : ℕ). withFigures s (s .fed) (s .runs) j) same-joins
+  record-none = ap₂ (withFigures s) (add-zero (s .fed)) same-figures
 
 -- so of every record, sound or not: with k = 0 nothing changes
 pub feed-none : (s : Session) (ws : List ℕ) (cells : List Bool) (a : Answer) (s′ : Session) (ws′ : List ℕ) → FeedPromise s ws 0 cells a s′ ws′

@@ -21,8 +21,8 @@ use Rattle.label.specs.Feeding.{runsAfter, startAfter, runAfter, withLin
 -- the place is of no line start and no new run's start or end that a feed writes
 pub record Aside (s : Session) (k : ℕ) (cells : List Bool) (j : ℕ) : Type 0 where
   pub no-line : (i : ℕ) → i < k → j ≢ linePlace (s .fed + suc i)
-  pub no-start : (r : ℕ) → s .runs ≤ r → r < runsAfter s cells → j ≢ startPlace (linesOf s) r
-  pub no-end : (r : ℕ) → s .runs ≤ r → r < runsAfter s cells → j ≢ endPlace (linesOf s) r
+  pub no-start : (r : ℕ) → s .figures .runs ≤ r → r < runsAfter s cells → j ≢ startPlace (linesOf s) r
+  pub no-end : (r : ℕ) → s .figures .runs ≤ r → r < runsAfter s cells → j ≢ endPlace (linesOf s) r
 
 -- what a feed's promise says of the words, parents aside, place by place
 pub record Wrote (s : Session) (ws : List ℕ) (k : ℕ) (cells : List Bool) (ws′ : List ℕ) : Type 0 where
@@ -46,13 +46,13 @@ module _ (s : Session) (ws : List ℕ) (k : ℕ) (cells : List Bool) (below : s 
   abbrev new : ℕ
   new = runs (shapeOf s) (structureOf s) cells
 
-  after-new : (i : ℕ) → i < new → s .runs + i < runsAfter s cells
+  after-new : (i : ℕ) → i < new → s .figures .runs + i < runsAfter s cells
   unfolding runsAfter
   after-new i h = omega arith
 
   -- ---- line starts
 
-  over-runs : (j : ℕ) → ((i : ℕ) → i < new → j ≢ startPlace L (s .runs + i)) → ((i : ℕ) → i < new → j ≢ endPlace L (s .runs + i))
+  over-runs : (j : ℕ) → ((i : ℕ) → i < new → j ≢ startPlace L (s .figures .runs + i)) → ((i : ℕ) → i < new → j ≢ endPlace L (s .figures .runs + i))
       → getD (withRuns s ws k cells) j 0 ≡ getD (withLines s ws k cells) j 0
   unfolding withRuns
   over-runs j no-start no-end = setAll-other _ _ new _ j no-end ∙ setAll-other _ _ new _ j no-start
@@ -77,61 +77,61 @@ module _ (s : Session) (ws : List ℕ) (k : ℕ) (cells : List Bool) (below : s 
 
   -- ---- runs
 
-  old-run : (r : ℕ) → r < s .runs → storedRun L ws r ≡ runAfter s ws cells r
+  old-run : (r : ℕ) → r < s .figures .runs → storedRun L ws r ≡ runAfter s ws cells r
   unfolding runAfter
-  old-run r h = rw (lt-ltb r (s .runs) h) refl
+  old-run r h = rw (lt-ltb r (s .figures .runs) h) refl
 
   over-lines : (j : ℕ) → L < j → getD (withLines s ws k cells) j 0 ≡ getD ws j 0
   unfolding withLines
   over-lines j h = setAll-other _ _ k ws j (λ i l q. omega arith)
 
   -- a new run is the r-th new one
-  newer : (r : ℕ) → ltb r (s .runs) ≡ false → r < runsAfter s cells → (s .runs + (r - s .runs) ≡ r) × (r - s .runs < new)
+  newer : (r : ℕ) → ltb r (s .figures .runs) ≡ false → r < runsAfter s cells → (s .figures .runs + (r - s .figures .runs) ≡ r) × (r - s .figures .runs < new)
   unfolding runsAfter
-  newer r e h = let m = ltb-false r (s .runs) e in (omega arith, omega arith)
+  newer r e h = let m = ltb-false r (s .figures .runs) e in (omega arith, omega arith)
 
-  new-start : (i : ℕ) → i < new → getD (withRuns s ws k cells) (startPlace L (s .runs + i)) 0 ≡ runAfter s ws cells (s .runs + i) .start
+  new-start : (i : ℕ) → i < new → getD (withRuns s ws k cells) (startPlace L (s .figures .runs + i)) 0 ≡ runAfter s ws cells (s .figures .runs + i) .start
   unfolding withRuns
   new-start i h =
-      let fits : startPlace L (s .runs + i) < length ws = omega (arith, room (s .runs + i) (after-new i h)) in
-      setAll-other _ _ new _ (startPlace L (s .runs + i)) (λ a l q. omega arith)
-      ∙ setAll-at (λ i. startPlace L (s .runs + i)) (λ i. runAfter s ws cells (s .runs + i) .start) new (withLines s ws k cells) (λ a b x y q. omega arith) i h (rw (length-withLines s ws k cells) fits)
+      let fits : startPlace L (s .figures .runs + i) < length ws = omega (arith, room (s .figures .runs + i) (after-new i h)) in
+      setAll-other _ _ new _ (startPlace L (s .figures .runs + i)) (λ a l q. omega arith)
+      ∙ setAll-at (λ i. startPlace L (s .figures .runs + i)) (λ i. runAfter s ws cells (s .figures .runs + i) .start) new (withLines s ws k cells) (λ a b x y q. omega arith) i h (rw (length-withLines s ws k cells) fits)
 
-  new-end : (i : ℕ) → i < new → getD (withRuns s ws k cells) (endPlace L (s .runs + i)) 0 ≡ runAfter s ws cells (s .runs + i) .end
+  new-end : (i : ℕ) → i < new → getD (withRuns s ws k cells) (endPlace L (s .figures .runs + i)) 0 ≡ runAfter s ws cells (s .figures .runs + i) .end
   unfolding withRuns
   new-end i h =
-      setAll-at (λ i. endPlace L (s .runs + i)) (λ i. runAfter s ws cells (s .runs + i) .end) new _ (λ a b x y q. omega arith) i h
-      (rw (length-setAll (λ i. startPlace L (s .runs + i)) (λ i. runAfter s ws cells (s .runs + i) .start) new (withLines s ws k cells), length-withLines s ws k cells) (room (s .runs + i) (after-new i h)))
+      setAll-at (λ i. endPlace L (s .figures .runs + i)) (λ i. runAfter s ws cells (s .figures .runs + i) .end) new _ (λ a b x y q. omega arith) i h
+      (rw (length-setAll (λ i. startPlace L (s .figures .runs + i)) (λ i. runAfter s ws cells (s .figures .runs + i) .start) new (withLines s ws k cells), length-withLines s ws k cells) (room (s .figures .runs + i) (after-new i h)))
 
   pub start-at : (r : ℕ) → r < runsAfter s cells → getD (withRuns s ws k cells) (startPlace L r) 0 ≡ runAfter s ws cells r .start
-  start-at r h = go (ltb r (s .runs)) refl
+  start-at r h = go (ltb r (s .figures .runs)) refl
     where
       At : ℕ → Type 0
       At x = getD (withRuns s ws k cells) (startPlace L x) 0 ≡ runAfter s ws cells x .start
 
-      go : (b : Bool) → ltb r (s .runs) ≡ b → At r
+      go : (b : Bool) → ltb r (s .figures .runs) ≡ b → At r
       go true e =
-          let m = ltb-true r (s .runs) e in
+          let m = ltb-true r (s .figures .runs) e in
           over-runs (startPlace L r) (λ i l q. omega arith) (λ i l q. omega arith) ∙ over-lines (startPlace L r) (omega arith) ∙ ap (λ (x : Run). x .start) (old-run r m)
-      go false e = let q = newer r e h in subst At (q .0) (new-start (r - s .runs) (q .1))
+      go false e = let q = newer r e h in subst At (q .0) (new-start (r - s .figures .runs) (q .1))
 
   pub end-at : (r : ℕ) → r < runsAfter s cells → getD (withRuns s ws k cells) (endPlace L r) 0 ≡ runAfter s ws cells r .end
-  end-at r h = go (ltb r (s .runs)) refl
+  end-at r h = go (ltb r (s .figures .runs)) refl
     where
       At : ℕ → Type 0
       At x = getD (withRuns s ws k cells) (endPlace L x) 0 ≡ runAfter s ws cells x .end
 
-      go : (b : Bool) → ltb r (s .runs) ≡ b → At r
+      go : (b : Bool) → ltb r (s .figures .runs) ≡ b → At r
       go true e =
-          let m = ltb-true r (s .runs) e in
+          let m = ltb-true r (s .figures .runs) e in
           over-runs (endPlace L r) (λ i l q. omega arith) (λ i l q. omega arith) ∙ over-lines (endPlace L r) (omega arith) ∙ ap (λ (x : Run). x .end) (old-run r m)
-      go false e = let q = newer r e h in subst At (q .0) (new-end (r - s .runs) (q .1))
+      go false e = let q = newer r e h in subst At (q .0) (new-end (r - s .figures .runs) (q .1))
 
   -- ---- every other word
 
   pub aside-at : (j : ℕ) → Aside s k cells j → getD (withRuns s ws k cells) j 0 ≡ getD ws j 0
   aside-at j A =
-      over-runs j (λ i l. A .no-start (s .runs + i) (omega arith) (after-new i l)) (λ i l. A .no-end (s .runs + i) (omega arith) (after-new i l))
+      over-runs j (λ i l. A .no-start (s .figures .runs + i) (omega arith) (after-new i l)) (λ i l. A .no-end (s .figures .runs + i) (omega arith) (after-new i l))
       ∙ (unfold withLines in setAll-other _ _ k ws j (A .no-line))
 
   -- ---- from the promise, and back

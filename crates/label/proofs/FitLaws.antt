@@ -75,11 +75,11 @@ module _ (s : Session) (ws : List ℕ) (S : Sound s ws) where
   fed-fits = omega (arith, S .shape .within, limits .1)
 
   -- no more runs than cells
-  pub runs-fit : s .runs < 4294967293
+  pub runs-fit : s .figures .runs < 4294967293
   unfolding runs
   runs-fit = omega (arith, runs-held s ws S, count-most (beginsRun dims (structureOf s) (cellsOf s ws)) (size dims), limits .2)
 
-  pub joins-fit : s .joins ≤ s .runs
+  pub joins-fit : s .figures .joins ≤ s .figures .runs
   joins-fit = omega (arith, n-joins s ws S)
 
   -- no group has more cells than the frame
@@ -103,15 +103,15 @@ module _ (s : Session) (ws : List ℕ) (S : Sound s ws) where
   line-fits ℓ h = omega (arith, starts-rise s ws S ℓ (s .fed) h (le-refl (s .fed)), S .words .last, runs-fit)
 
   -- a run's number is not above the count of the runs up to it
-  number-fits : (r : ℕ) → r < s .runs → numberIn (parentOf (linesOf s) ws) r < 4294967296
+  number-fits : (r : ℕ) → r < s .figures .runs → numberIn (parentOf (linesOf s) ws) r < 4294967296
   unfolding numberIn
   number-fits r h =
       let p = parentOf (linesOf s) ws in
-      omega (arith, roots-others p (suc (rootOf p r)), root-le p (s .runs) (S .words .parents) r h, runs-fit)
+      omega (arith, roots-others p (suc (rootOf p r)), root-le p (s .figures .runs) (S .words .parents) r h, runs-fit)
 
   pub names-fit : Words32 ws → Words32 (withNames s ws)
   unfolding withNames
-  names-fit fits = setAll-fits _ _ (s .runs) ws number-fits fits
+  names-fit fits = setAll-fits _ _ (s .figures .runs) ws number-fits fits
 
 -- ---- a feed
 
@@ -154,8 +154,8 @@ module _ (s : Session) (ws : List ℕ) (k : ℕ) (cells : List Bool) (no-cause :
   with-runs : Words32 (withRuns s ws k cells)
   unfolding withRuns withLines runsAfter
   with-runs =
-      setAll-fits _ _ new _ (λ i h. let u = run-inside (s .runs + i) (omega arith) in omega (arith, u .fits, limits s ws (G .is-sound) .0))
-      (setAll-fits _ _ new _ (λ i h. let u = run-inside (s .runs + i) (omega arith) in omega (arith, u .full, u .fits, limits s ws (G .is-sound) .0))
+      setAll-fits _ _ new _ (λ i h. let u = run-inside (s .figures .runs + i) (omega arith) in omega (arith, u .fits, limits s ws (G .is-sound) .0))
+      (setAll-fits _ _ new _ (λ i h. let u = run-inside (s .figures .runs + i) (omega arith) in omega (arith, u .full, u .fits, limits s ws (G .is-sound) .0))
       (setAll-fits _ _ k ws (λ i h. start-fits (s .fed + suc i) (omega arith)) fits))
 
   parent-fits : (r : ℕ) → r < after → parentOf L ws′ r < 4294967296

@@ -20,7 +20,7 @@ use Rattle.frame.proofs.CauseLaws.{Allowed, open-accepted, frame-accepted, fram
 use Rattle.frame.proofs.PlainLaws.{unless-same, unless-some, kept-old, kept-same}
 use Rattle.label.specs.declared.Session.{Session}
 use Rattle.label.specs.Record.{shapeOf, structureOf, linesOf}
-use Rattle.label.specs.Held.{figuresOf, cellsOf}
+use Rattle.label.specs.Held.{cellsOf}
 use Rattle.label.specs.Opening.{openRecord, openWords}
 use Rattle.label.specs.Feeding.{runsAfter, feedRecord, feedCauseOf, FeedWords, FeedPromise}
 use Rattle.label.specs.Reading.{withNames, countedOf, readCauseOf, ReadPromise}
@@ -142,10 +142,10 @@ module _ (kind : Number) (shape structure ws : List ℕ) (cells : List Bool) (ou
         output = R .output ∙ kept-same (readCauseOf kind s₁ ws₁ (length out)) late out _ _ cause-late (λ e. inv-numbers s₁ ws₁ inv-fed kind ∙ labels-late);
         refusal = λ l. absurd (omega arith);
         accepted = λ e. record {
-          answer = fed (lines shape) (figuresOf s₁);
+          answer = fed (lines shape) (s₁ .figures);
           session = s₁;
           fed-words = ws₁;
-          fed-all = subst (λ (n : ℕ). FeedPromise s vs (lines shape) cells (fed n (figuresOf s₁)) s₁ ws₁) (zero-add (lines shape)) (accepted-promise s vs (lines shape) cells G ws₁ W);
+          fed-all = subst (λ (n : ℕ). FeedPromise s vs (lines shape) cells (fed n (s₁ .figures)) s₁ ws₁) (zero-add (lines shape)) (accepted-promise s vs (lines shape) cells G ws₁ W);
           names = R .words ∙ ap (λ (c : ℕ). kept c ws₁ (withNames s₁ ws₁)) cause-late;
         };
       }

@@ -53,8 +53,8 @@ module _ (s : Session) (ws : List ℕ) where
 
   pub length-held : length (cellsOf s ws) ≡ s .fed * w
   unfolding cellsOf
-  length-held = listed-length (λ p. any (holdsCell s ws p) (s .runs)) (s .fed * w)
+  length-held = listed-length (λ p. any (holdsCell s ws p) (s .figures .runs)) (s .fed * w)
 
-  pub nonzero-held : (p : ℕ) → p < s .fed * w → nonzero (cellsOf s ws) p ≡ any (holdsCell s ws p) (s .runs)
+  pub nonzero-held : (p : ℕ) → p < s .fed * w → nonzero (cellsOf s ws) p ≡ any (holdsCell s ws p) (s .figures .runs)
   unfolding cellsOf nonzero
-  nonzero-held p h = listed-at (λ p. any (holdsCell s ws p) (s .runs)) (s .fed * w) p false h
+  nonzero-held p h = listed-at (λ p. any (holdsCell s ws p) (s .figures .runs)) (s .fed * w) p false h

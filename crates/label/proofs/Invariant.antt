@@ -24,7 +24,7 @@ use Rattle.forest.proofs.ForestLaws.{roots-groups, number-groups}
 use Rattle.label.specs.declared.Session.{Session}
 use Rattle.label.specs.Record.{shapeOf, structureOf, linesOf}
 use Rattle.label.specs.Sound.{Sound}
-use Rattle.label.specs.Held.{figuresOf, cellsOf, holderOf, rootCount, numberAt, sizeAt, numbersHeld, sizesHeld}
+use Rattle.label.specs.Held.{cellsOf, holderOf, rootCount, numberAt, sizeAt, numbersHeld, sizesHeld}
 use Rattle.label.proofs.SoundLaws.{n-joins}
 use Rattle.label.proofs.StoreLaws.{Stores, stores-below, stores-holder}
 use Rattle.label.proofs.SoundCells.{sound-stores, runs-held}
@@ -40,7 +40,7 @@ visited s ws = visit (frameTouches (shapeOf s) (structureOf s) (cellsOf s ws) 0 
 -- the record is sound, and the grouping that it holds is that of the touches
 pub record Inv (s : Session) (ws : List ℕ) : Type 0 where
   pub is-sound : Sound s ws
-  pub grouped : (r : ℕ) → r < s .runs → rootOf (parentOf (linesOf s) ws) r ≡ rep (visited s ws) r
+  pub grouped : (r : ℕ) → r < s .figures .runs → rootOf (parentOf (linesOf s) ws) r ≡ rep (visited s ws) r
 
 module _ (s : Session) (ws : List ℕ) (I : Inv s ws) where
   abbrev shape : List ℕ
@@ -58,22 +58,22 @@ module _ (s : Session) (ws : List ℕ) (I : Inv s ws) where
   H : Stores s ws cells
   H = sound-stores s ws (I .is-sound)
 
-  pub inv-runs : s .runs ≡ runs shape structure cells
+  pub inv-runs : s .figures .runs ≡ runs shape structure cells
   inv-runs = runs-held s ws (I .is-sound)
 
   -- n is the plain session's
   pub inv-n : rootCount s ws ≡ groupsOf shape (stateOf s ws)
   unfolding rootCount groupsOf
   inv-n =
-      roots-groups parent (s .runs) (I .is-sound .words .parents) (visited s ws) (I .grouped) (s .runs) (le-refl (s .runs))
+      roots-groups parent (s .figures .runs) (I .is-sound .words .parents) (visited s ws) (I .grouped) (s .figures .runs) (le-refl (s .figures .runs))
       ∙ ap (groups (λ r. true) (visited s ws)) inv-runs
       ∙ groups-visited shape structure cells (s .fed) (H .fits)
 
   -- and so are runs and joins
-  pub inv-figures : figuresOf s ≡ figures shape (stateOf s ws)
+  pub inv-figures : s .figures ≡ figures shape (stateOf s ws)
   unfolding figures
   inv-figures =
-      let j : s .joins ≡ runs shape structure cells - groupsOf shape (stateOf s ws) = omega (arith, n-joins s ws (I .is-sound), inv-n, inv-runs) in
+      let j : s .figures .joins ≡ runs shape structure cells - groupsOf shape (stateOf s ws) = omega (arith, n-joins s ws (I .is-sound), inv-n, inv-runs) in
       ap₂ (λ (r : ℕ) (j : ℕ). record { runs = r; joins = j }) inv-runs j
 
   -- each cell's number
@@ -87,7 +87,7 @@ module _ (s : Session) (ws : List ℕ) (I : Inv s ws) where
       in-run : nonzero cells p ≡ true → numberIn parent (holderOf s ws p) ≡ number (λ r. true) (visited s ws) (runOf shape structure cells p)
       in-run e =
           ap (numberIn parent) (stores-holder s ws cells H p e)
-          ∙ number-groups parent (s .runs) (I .is-sound .words .parents) (visited s ws) (I .grouped) (runOf shape structure cells p) (stores-below s ws cells H p e)
+          ∙ number-groups parent (s .figures .runs) (I .is-sound .words .parents) (visited s ws) (I .grouped) (runOf shape structure cells p) (stores-below s ws cells H p e)
 
       go : (b : Bool) → nonzero cells p ≡ b → cond (nonzero cells p) (numberIn parent (holderOf s ws p)) 0 ≡ label shape structure cells p
       go true e = rw (e, in-run e) (rw e at by-run)

@@ -21,7 +21,7 @@ use Rattle.forest.proofs.ForestLaws.{grouping-rep-all}
 use Rattle.label.specs.declared.Session.{Session}
 use Rattle.label.specs.Record.{shapeOf, structureOf, linesOf}
 use Rattle.label.specs.Sound.{Sound, sound}
-use Rattle.label.specs.Held.{figuresOf, cellsOf, groupingOf}
+use Rattle.label.specs.Held.{cellsOf, groupingOf}
 use Rattle.label.specs.Feeding.{feedEdges, feedRecord, feedCauseOf, FeedWords, FeedPromise}
 use Rattle.label.specs.Reading.{withNames, countedOf, readCauseOf, ReadPromise, sizesCauseOf, SizesPromise}
 use Rattle.label.specs.Steps.{FeedAccepted}
@@ -51,13 +51,13 @@ module _ (s : Session) (ws : List ℕ) (I : Inv s ws) (k : ℕ) (more : List Boo
 
   -- the grouping held before is that of the old lines' touches
   before : (a : ℕ) → rep (groupingOf s ws) a ≡ rep (visited s ws) a
-  before = grouping-rep-all (parentOf (linesOf s) ws) (s .runs) (I .is-sound .words .parents) (visited s ws) ends (I .grouped)
+  before = grouping-rep-all (parentOf (linesOf s) ws) (s .figures .runs) (I .is-sound .words .parents) (visited s ws) ends (I .grouped)
     where
-      touched : Ends (λ r. r < s .runs) (frameTouches (shapeOf s) (structureOf s) (cellsOf s ws) 0 (s .fed))
+      touched : Ends (λ r. r < s .figures .runs) (frameTouches (shapeOf s) (structureOf s) (cellsOf s ws) 0 (s .fed))
       touched = subst (λ (n : ℕ). Ends (λ r. r < n) (frameTouches (shapeOf s) (structureOf s) (cellsOf s ws) 0 (s .fed))) (sym (inv-runs s ws I)) (touches-runs (shapeOf s) (structureOf s) (cellsOf s ws) (s .fed) (H .fits))
 
-      ends : Ends (λ r. r < s .runs) (visited s ws)
-      ends = ends-visit (λ r. r < s .runs) (frameTouches (shapeOf s) (structureOf s) (cellsOf s ws) 0 (s .fed)) [] touched tt
+      ends : Ends (λ r. r < s .figures .runs) (visited s ws)
+      ends = ends-visit (λ r. r < s .figures .runs) (frameTouches (shapeOf s) (structureOf s) (cellsOf s ws) 0 (s .fed)) [] touched tt
 
   -- so the one held afterwards is that of all lines' touches
   edges-after : (r : ℕ) → rep (feedEdges s ws k more) r ≡ rep (visit (frameTouches (shapeOf s) (structureOf s) (cellsOf s ws ++ more) 0 (s .fed + k)) []) r
@@ -77,7 +77,7 @@ module _ (s : Session) (ws : List ℕ) (I : Inv s ws) (k : ℕ) (more : List Boo
   unfolding feeds feedRecord structureOf
   fed-state = ap (λ (cells : List Bool). record { structure = structureOf s; fed = s .fed + k; cells = cells }) fed-cells
 
-  pub fed-figures : figuresOf (feedRecord s ws k more) ≡ figures (shapeOf s) (feeds (stateOf s ws) k more)
+  pub fed-figures : feedRecord s ws k more .figures ≡ figures (shapeOf s) (feeds (stateOf s ws) k more)
   unfolding feedRecord shapeOf
   fed-figures = inv-figures (feedRecord s ws k more) ws′ fed-inv ∙ ap (figures (shapeOf s)) fed-state
 

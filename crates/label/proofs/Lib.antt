@@ -15,6 +15,7 @@ pub mod NameLaws
 pub mod WrittenNumbers
 pub mod WrittenSizes
 pub mod Invariant
+pub mod GroupedLaws
 pub mod KeepLaws
 pub mod OpenLaws
 pub mod FeedNoneLaws

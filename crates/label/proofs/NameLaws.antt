@@ -24,20 +24,20 @@ module _ (s : Session) (ws : List ℕ) where
 
   pub length-names : length (withNames s ws) ≡ length ws
   unfolding withNames
-  length-names = length-setAll _ _ (s .runs) ws
+  length-names = length-setAll _ _ (s .figures .runs) ws
 
   -- every word that is no name stands
-  pub names-other : (j : ℕ) → ((r : ℕ) → r < s .runs → j ≢ namePlace L r) → getD (withNames s ws) j 0 ≡ getD ws j 0
+  pub names-other : (j : ℕ) → ((r : ℕ) → r < s .figures .runs → j ≢ namePlace L r) → getD (withNames s ws) j 0 ≡ getD ws j 0
   unfolding withNames
-  names-other j h = setAll-other _ _ (s .runs) ws j h
+  names-other j h = setAll-other _ _ (s .figures .runs) ws j h
 
   pub parents-stand : parentOf L (withNames s ws) ≡ parentOf L ws
   parents-stand = fun-ext (λ r. names-other _ (λ i h q. omega arith))
 
   -- and a run's name is its number
-  pub names-at : ((r : ℕ) → r < s .runs → namePlace L r < length ws) → (r : ℕ) → r < s .runs → nameOf L (withNames s ws) r ≡ numberIn (parentOf L ws) r
+  pub names-at : ((r : ℕ) → r < s .figures .runs → namePlace L r < length ws) → (r : ℕ) → r < s .figures .runs → nameOf L (withNames s ws) r ≡ numberIn (parentOf L ws) r
   unfolding withNames
-  names-at room r h = setAll-at (namePlace L) (numberIn (parentOf L ws)) (s .runs) ws (λ a b x y q. omega arith) r h (room r h)
+  names-at room r h = setAll-at (namePlace L) (numberIn (parentOf L ws)) (s .figures .runs) ws (λ a b x y q. omega arith) r h (room r h)
 
   module _ (cells : List Bool) (H : Stores s ws cells) where
     pub stores-named : Stores s (withNames s ws) cells
@@ -54,5 +54,5 @@ module _ (s : Session) (ws : List ℕ) where
     pub sound-named : Sound s ws → Sound s (withNames s ws)
     sound-named S =
         stores-sound s (withNames s ws) cells stores-named (S .shape .ranked) (S .shape .dimensions) (S .shape .limits) (rw length-names (S .shape .memory))
-        (subst (λ (p : ℕ → ℕ). (r : ℕ) → r < s .runs → p r ≤ r) (sym parents-stand) (S .words .parents))
-        (S .words .join-count ∙ ap (λ (p : ℕ → ℕ). nonRoots p (s .runs)) (sym parents-stand))
+        (subst (λ (p : ℕ → ℕ). (r : ℕ) → r < s .figures .runs → p r ≤ r) (sym parents-stand) (S .words .parents))
+        (S .words .join-count ∙ ap (λ (p : ℕ → ℕ). nonRoots p (s .figures .runs)) (sym parents-stand))

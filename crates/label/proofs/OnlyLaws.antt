@@ -68,27 +68,27 @@ feed-only s ws k cells a b s′ t ws′ vs P Q = (P .said ∙ sym (Q .said), P .
 
 -- ---- names are set alike
 
-module _ (s : Session) (ws vs : List ℕ) (low-w : (r : ℕ) → r < s .runs → parentOf (linesOf s) ws r ≤ r) (low-v : (r : ℕ) → r < s .runs → parentOf (linesOf s) vs r ≤ r) (room : (r : ℕ) → r < s .runs → namePlace (linesOf s) r < length ws) (A : Alike (linesOf s) (s .runs) ws vs) where
+module _ (s : Session) (ws vs : List ℕ) (low-w : (r : ℕ) → r < s .figures .runs → parentOf (linesOf s) ws r ≤ r) (low-v : (r : ℕ) → r < s .figures .runs → parentOf (linesOf s) vs r ≤ r) (room : (r : ℕ) → r < s .figures .runs → namePlace (linesOf s) r < length ws) (A : Alike (linesOf s) (s .figures .runs) ws vs) where
   abbrev L : ℕ
   L = linesOf s
 
-  pub names-only : Alike L (s .runs) (withNames s ws) (withNames s vs)
+  pub names-only : Alike L (s .figures .runs) (withNames s ws) (withNames s vs)
   names-only = record {
     long = length-names s ws ∙ A .long ∙ sym (length-names s vs);
-    words = λ j h. go j h (any (λ r. eqb j (namePlace L r)) (s .runs)) refl;
+    words = λ j h. go j h (any (λ r. eqb j (namePlace L r)) (s .figures .runs)) refl;
     roots = λ r h. ap (λ (p : ℕ → ℕ). rootOf p r) (parents-stand s ws) ∙ A .roots r h ∙ ap (λ (p : ℕ → ℕ). rootOf p r) (sym (parents-stand s vs));
   }
     where
       Same : ℕ → Type 0
       Same j = getD (withNames s ws) j 0 ≡ getD (withNames s vs) j 0
 
-      named : (r : ℕ) → r < s .runs → Same (namePlace L r)
-      named r h = names-at s ws room r h ∙ numbers-same (parentOf L ws) (parentOf L vs) (s .runs) low-w low-v (A .roots) r h ∙ sym (names-at s vs (λ i l. rw (← A .long) (room i l)) r h)
+      named : (r : ℕ) → r < s .figures .runs → Same (namePlace L r)
+      named r h = names-at s ws room r h ∙ numbers-same (parentOf L ws) (parentOf L vs) (s .figures .runs) low-w low-v (A .roots) r h ∙ sym (names-at s vs (λ i l. rw (← A .long) (room i l)) r h)
 
-      go : (j : ℕ) → NoParent L (s .runs) j → (b : Bool) → any (λ r. eqb j (namePlace L r)) (s .runs) ≡ b → Same j
-      go j h true e = let f = any-found (λ r. eqb j (namePlace L r)) (s .runs) e in subst Same (sym (eqb-true j (namePlace L (f .0)) (f .2))) (named (f .0) (f .1))
+      go : (j : ℕ) → NoParent L (s .figures .runs) j → (b : Bool) → any (λ r. eqb j (namePlace L r)) (s .figures .runs) ≡ b → Same j
+      go j h true e = let f = any-found (λ r. eqb j (namePlace L r)) (s .figures .runs) e in subst Same (sym (eqb-true j (namePlace L (f .0)) (f .2))) (named (f .0) (f .1))
       go j h false e =
-          let no-name : (r : ℕ) → r < s .runs → j ≢ namePlace L r = λ r l q. true≢false (sym (any-at (λ r. eqb j (namePlace L r)) (s .runs) r l (eq-eqb j (namePlace L r) q)) ∙ e) in
+          let no-name : (r : ℕ) → r < s .figures .runs → j ≢ namePlace L r = λ r l q. true≢false (sym (any-at (λ r. eqb j (namePlace L r)) (s .figures .runs) r l (eq-eqb j (namePlace L r) q)) ∙ e) in
           names-other s ws j no-name ∙ A .words j h ∙ sym (names-other s vs j no-name)
 
 -- ---- whole frames
@@ -121,32 +121,32 @@ module _ (kind : Number) (shape structure ws : List ℕ) (cells : List Bool) (ou
     named vs F = F .names ∙ ap (λ (x : Session). kept late (F .fed-words) (withNames x (F .fed-words))) (session vs F)
 
     module _ (F : FrameWords kind shape structure ws cells out ws′) (G : FrameWords kind shape structure ws cells out vs′) where
-      fed-alike : Alike (linesOf s₁) (s₁ .runs) (F .fed-words) (G .fed-words)
+      fed-alike : Alike (linesOf s₁) (s₁ .figures .runs) (F .fed-words) (G .fed-words)
       unfolding feedRecord shapeOf
       fed-alike = words-only s (openWords ws) (lines shape) cells (F .fed-words) (G .fed-words) (words ws′ F) (words vs′ G)
 
-      named-alike : Alike (linesOf s₁) (s₁ .runs) (withNames s₁ (F .fed-words)) (withNames s₁ (G .fed-words))
+      named-alike : Alike (linesOf s₁) (s₁ .figures .runs) (withNames s₁ (F .fed-words)) (withNames s₁ (G .fed-words))
       named-alike = names-only s₁ (F .fed-words) (G .fed-words) (low ws′ F) (low vs′ G) room fed-alike
         where
-          low : (vs : List ℕ) → (K : FrameWords kind shape structure ws cells out vs) → (r : ℕ) → r < s₁ .runs → parentOf (linesOf s₁) (K .fed-words) r ≤ r
+          low : (vs : List ℕ) → (K : FrameWords kind shape structure ws cells out vs) → (r : ℕ) → r < s₁ .figures .runs → parentOf (linesOf s₁) (K .fed-words) r ≤ r
           low vs K = unfold feedRecord shapeOf in words vs K .parents
 
-          room : (r : ℕ) → r < s₁ .runs → namePlace (linesOf s₁) r < length (F .fed-words)
+          room : (r : ℕ) → r < s₁ .figures .runs → namePlace (linesOf s₁) r < length (F .fed-words)
           room = unfold feedRecord shapeOf in λ r h. rw (words ws′ F .long) (frame-room kind shape structure ws cells out no-cause r h)
 
-      kept-alike : (c : ℕ) → late ≡ c → Alike (linesOf s₁) (s₁ .runs) ws′ vs′
+      kept-alike : (c : ℕ) → late ≡ c → Alike (linesOf s₁) (s₁ .figures .runs) ws′ vs′
       kept-alike zero e =
           let left : ws′ ≡ withNames s₁ (F .fed-words) = named ws′ F ∙ kept-new (F .fed-words) (withNames s₁ (F .fed-words)) late e in
           let right : vs′ ≡ withNames s₁ (G .fed-words) = named vs′ G ∙ kept-new (G .fed-words) (withNames s₁ (G .fed-words)) late e in
-          subst (λ (x : List ℕ). Alike (linesOf s₁) (s₁ .runs) x vs′) (sym left) (subst (λ (y : List ℕ). Alike (linesOf s₁) (s₁ .runs) (withNames s₁ (F .fed-words)) y) (sym right) named-alike)
+          subst (λ (x : List ℕ). Alike (linesOf s₁) (s₁ .figures .runs) x vs′) (sym left) (subst (λ (y : List ℕ). Alike (linesOf s₁) (s₁ .figures .runs) (withNames s₁ (F .fed-words)) y) (sym right) named-alike)
       kept-alike (suc c) e =
           let left : ws′ ≡ F .fed-words = named ws′ F ∙ kept-old (F .fed-words) (withNames s₁ (F .fed-words)) late c e in
           let right : vs′ ≡ G .fed-words = named vs′ G ∙ kept-old (G .fed-words) (withNames s₁ (G .fed-words)) late c e in
-          subst (λ (x : List ℕ). Alike (linesOf s₁) (s₁ .runs) x vs′) (sym left) (subst (λ (y : List ℕ). Alike (linesOf s₁) (s₁ .runs) (F .fed-words) y) (sym right) fed-alike)
+          subst (λ (x : List ℕ). Alike (linesOf s₁) (s₁ .figures .runs) x vs′) (sym left) (subst (λ (y : List ℕ). Alike (linesOf s₁) (s₁ .figures .runs) (F .fed-words) y) (sym right) fed-alike)
 
       whole-alike : Alike (lines shape) (runs shape structure cells) ws′ vs′
       whole-alike =
-          let stored : s₁ .runs ≡ runsAfter s cells = (unfold feedRecord in refl) in
+          let stored : s₁ .figures .runs ≡ runsAfter s cells = (unfold feedRecord in refl) in
           subst (λ (L : ℕ). Alike L (runs shape structure cells) ws′ vs′) (ap lines (feed-shape s (openWords ws) (lines shape) cells) ∙ frame-lines kind shape structure ws cells out no-cause)
           (subst (λ (n : ℕ). Alike (linesOf s₁) n ws′ vs′) (stored ∙ frame-runs kind shape structure ws cells out no-cause) (kept-alike late refl))
 

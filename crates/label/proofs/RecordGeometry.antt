@@ -98,11 +98,11 @@ module _ (s : Session) (ws : List ℕ) (f : Shaped) (F : ShapeFound (s .rank) (s
         }
 
     -- and what is left to test
-    module _ (t : Bool) (is : t ≡ wordsSound (f .geo .lines) (f .geo .width) (f .geo .left) (s .fed) (s .runs) (s .joins) ws) where
+    module _ (t : Bool) (is : t ≡ wordsSound (f .geo .lines) (f .geo .width) (f .geo .left) (s .fed) (s .figures .runs) (s .figures .joins) ws) where
       pub words-unsound : t ≡ false → 6 ≡ soundCauseOf s ws
       words-unsound e = unsound (not-sound (λ S. true≢false (sym (all S) ∙ sym is ∙ e)))
         where
-          all : Sound s ws → wordsSound (g .lines) (g .width) (g .left) (s .fed) (s .runs) (s .joins) ws ≡ true
+          all : Sound s ws → wordsSound (g .lines) (g .width) (g .left) (s .fed) (s .figures .runs) (s .figures .joins) ws ≡ true
           all S = rw (geo-lines s ws g K, geo-width s ws g K, geo-left s ws g K) (right-words _ _ _ _ _ _ ws (S .words))
 
       pub words-found : t ≡ true → (r : Checked) → checkNumber (r .check) ≡ 0 → r .geo ≡ f .geo → RecordFound s (soundCauseOf s ws) r

@@ -59,7 +59,7 @@ module _ (s : Session) (ws : List ℕ) (K : Sound s ws) where
 
   -- ---- line starts
 
-  start-most : (ℓ : ℕ) → ℓ ≤ s .fed → lineStart ws ℓ ≤ s .runs
+  start-most : (ℓ : ℕ) → ℓ ≤ s .fed → lineStart ws ℓ ≤ s .figures .runs
   start-most ℓ h = subst (λ (n : ℕ). lineStart ws ℓ ≤ n) (K .words .last) (starts-rise s ws K ℓ (s .fed) h (le-refl (s .fed)))
 
   -- ---- one line
@@ -81,7 +81,7 @@ module _ (s : Session) (ws : List ℕ) (K : Sound s ws) where
     held-at : (i : ℕ) → i < few → getD held i none ≡ stored (lineStart ws ℓ + i)
     held-at i l = listed-at (λ i. stored (lineStart ws ℓ + i)) few i none l
 
-    below : (i : ℕ) → i < few → lineStart ws ℓ + i < s .runs
+    below : (i : ℕ) → i < few → lineStart ws ℓ + i < s .figures .runs
     below i l = omega (arith, start-most (suc ℓ) h)
 
     held-within : (i : ℕ) → i < length held → Within w (getD held i none)
@@ -105,7 +105,7 @@ module _ (s : Session) (ws : List ℕ) (K : Sound s ws) where
 
     -- ---- its columns
 
-    flag-held : (x : ℕ) → x < w → getD flags x false ≡ any (holdsCell s ws (ℓ * w + x)) (s .runs)
+    flag-held : (x : ℕ) → x < w → getD flags x false ≡ any (holdsCell s ws (ℓ * w + x)) (s .figures .runs)
     flag-held x l = nonzero-line dims bytes cells ℓ x l ∙ nonzero-held s ws (ℓ * w + x) (digits-lt h l)
 
     covered-on : (i x : ℕ) → In held i x → getD flags x false ≡ true
@@ -113,7 +113,7 @@ module _ (s : Session) (ws : List ℕ) (K : Sound s ws) where
         let b = in-below held i x c in
         let k : i < few = rw held-length at b in
         let l : x < w = omega (arith, c .1, held-within i b .fits) in
-        flag-held x l ∙ any-at (holdsCell s ws (ℓ * w + x)) (s .runs) (lineStart ws ℓ + i) (below i k)
+        flag-held x l ∙ any-at (holdsCell s ws (ℓ * w + x)) (s .figures .runs) (lineStart ws ℓ + i) (below i k)
         (parts-hold s ws (ℓ * w + x) (lineStart ws ℓ + i)
         (record {
           low = rw (digits-div ℓ l) (omega arith);
@@ -125,7 +125,7 @@ module _ (s : Session) (ws : List ℕ) (K : Sound s ws) where
     unfolding nonzero
     on-covered x e =
         let l : x < w = lt-of-lt-of-le (nonzero-below flags x e) (short dims bytes cells ℓ) in
-        let f = any-found (holdsCell s ws (ℓ * w + x)) (s .runs) (sym (flag-held x l) ∙ e) in
+        let f = any-found (holdsCell s ws (ℓ * w + x)) (s .figures .runs) (sym (flag-held x l) ∙ e) in
         let r = f .0 in
         let k = holds-parts s ws (ℓ * w + x) r (f .2) in
         let low : lineStart ws ℓ ≤ r = rw (digits-div ℓ l) at (k .low) in
@@ -146,10 +146,10 @@ module _ (s : Session) (ws : List ℕ) (K : Sound s ws) where
   starts-are zero h = K .words .first ∙ sym (start-zero dims bytes cells)
   starts-are (suc ℓ) h = omega (arith, starts-are ℓ (omega arith), K .words .rising ℓ h, start-suc dims bytes cells ℓ, ap length (line-runs ℓ h), held-length ℓ h)
 
-  runs-are : s .runs ≡ S (s .fed)
+  runs-are : s .figures .runs ≡ S (s .fed)
   runs-are = sym (K .words .last) ∙ starts-are (s .fed) (le-refl (s .fed))
 
-  listed : (r : ℕ) → r < s .runs → stored r ≡ run r
+  listed : (r : ℕ) → r < s .figures .runs → stored r ≡ run r
   listed r h =
       let P = located dims bytes cells (s .fed) r (subst (λ (n : ℕ). r < n) runs-are h) in
       let ℓ = P .line-of in
@@ -174,5 +174,5 @@ module _ (s : Session) (ws : List ℕ) (K : Sound s ws) where
   }
 
   -- so runs are document 01's for those cells
-  pub runs-held : s .runs ≡ runs (shapeOf s) (structureOf s) (cellsOf s ws)
+  pub runs-held : s .figures .runs ≡ runs (shapeOf s) (structureOf s) (cellsOf s ws)
   runs-held = runs-are ∙ sym (runs-all dims bytes cells (s .fed) (sound-stores .fits))

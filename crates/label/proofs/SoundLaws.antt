@@ -42,14 +42,14 @@ module _ (s : Session) (ws : List ℕ) (S : Sound s ws) where
   starts-rise a b l = le-ind (λ m. m ≤ s .fed → lineStart ws a ≤ lineStart ws m) (λ k. le-refl (lineStart ws a)) (λ m i below k. le-trans (below (omega arith)) (S .words .rising m k)) b l
 
   -- n: as many as runs less joins, and as the groups that the parents hold
-  pub n-roots : rootCount s ws ≡ s .runs - s .joins
+  pub n-roots : rootCount s ws ≡ s .figures .runs - s .figures .joins
   unfolding rootCount
-  n-roots = omega (arith, roots-count (parentOf (linesOf s) ws) (s .runs) (S .words .parents), S .words .join-count)
+  n-roots = omega (arith, roots-count (parentOf (linesOf s) ws) (s .figures .runs) (S .words .parents), S .words .join-count)
 
-  pub n-joins : s .runs ≡ rootCount s ws + s .joins
+  pub n-joins : s .figures .runs ≡ rootCount s ws + s .figures .joins
   unfolding rootCount
-  n-joins = omega (arith, roots-others (parentOf (linesOf s) ws) (s .runs), S .words .join-count)
+  n-joins = omega (arith, roots-others (parentOf (linesOf s) ws) (s .figures .runs), S .words .join-count)
 
-  pub n-groups : rootCount s ws ≡ groups (λ r. true) (groupingOf s ws) (s .runs)
+  pub n-groups : rootCount s ws ≡ groups (λ r. true) (groupingOf s ws) (s .figures .runs)
   unfolding rootCount
-  n-groups = roots-grouping (parentOf (linesOf s) ws) (s .runs) (S .words .parents)
+  n-groups = roots-grouping (parentOf (linesOf s) ws) (s .figures .runs) (S .words .parents)

@@ -24,8 +24,8 @@ use Rattle.label.proofs.HoldLaws.{holds-parts, parts-hold, length-held,
 pub record Stores (s : Session) (ws : List ℕ) (cells : List Bool) : Type 0 where
   pub fits : Fits (shapeOf s) (s .fed) cells
   pub starts : (ℓ : ℕ) → ℓ ≤ s .fed → lineStart ws ℓ ≡ runsBefore (shapeOf s) (structureOf s) cells ℓ
-  pub runs-are : s .runs ≡ runsBefore (shapeOf s) (structureOf s) cells (s .fed)
-  pub listed : (r : ℕ) → r < s .runs → storedRun (linesOf s) ws r ≡ frameRun (shapeOf s) (structureOf s) cells r
+  pub runs-are : s .figures .runs ≡ runsBefore (shapeOf s) (structureOf s) cells (s .fed)
+  pub listed : (r : ℕ) → r < s .figures .runs → storedRun (linesOf s) ws r ≡ frameRun (shapeOf s) (structureOf s) cells r
 
 module _ (s : Session) (ws : List ℕ) (cells : List Bool) (H : Stores s ws cells) where
   -- the shape, the structure, the width, and the run of a cell
@@ -49,7 +49,7 @@ module _ (s : Session) (ws : List ℕ) (cells : List Bool) (H : Stores s ws cell
     fed-line : p / w < s .fed
     fed-line = line-below dims bytes cells (s .fed) (H .fits) p a
 
-    pub stores-below : of p < s .runs
+    pub stores-below : of p < s .figures .runs
     stores-below =
         let k : of p < runsBefore dims bytes cells (s .fed) = lt-of-lt-of-le (in-run .high) (start-le dims bytes cells (suc (p / w)) (s .fed) fed-line) in
         subst (λ (n : ℕ). of p < n) (sym (H .runs-are)) k
@@ -64,7 +64,7 @@ module _ (s : Session) (ws : List ℕ) (cells : List Bool) (H : Stores s ws cell
         })
 
   -- a run that holds a cell of the lines fed is its run, and the cell is nonzero
-  pub holder-is : (p r : ℕ) → p < s .fed * w → r < s .runs → holdsCell s ws p r ≡ true → (nonzero cells p ≡ true) × (of p ≡ r)
+  pub holder-is : (p r : ℕ) → p < s .fed * w → r < s .figures .runs → holdsCell s ws p r ≡ true → (nonzero cells p ≡ true) × (of p ≡ r)
   holder-is p r h l e =
       let k = holds-parts s ws p r e in
       let fed : p / w < s .fed = div-lt-iff-lt-mul (factor-pos (s .fed) w p h) .1 h in
@@ -74,12 +74,12 @@ module _ (s : Session) (ws : List ℕ) (cells : List Bool) (H : Stores s ws cell
       let c = run-cells dims bytes cells (p / w) r (le-trans fed (H .fits .below)) low high (p % w) covers in
       subst (λ (q : ℕ). (nonzero cells q ≡ true) × (of q ≡ r)) (div-add-mod' p w) (c .1, c .2)
 
-  pub stores-held : (p : ℕ) → p < s .fed * w → any (holdsCell s ws p) (s .runs) ≡ nonzero cells p
-  stores-held p h = go (nonzero cells p) refl (any (holdsCell s ws p) (s .runs)) refl
+  pub stores-held : (p : ℕ) → p < s .fed * w → any (holdsCell s ws p) (s .figures .runs) ≡ nonzero cells p
+  stores-held p h = go (nonzero cells p) refl (any (holdsCell s ws p) (s .figures .runs)) refl
     where
-      go : (b : Bool) → nonzero cells p ≡ b → (t : Bool) → any (holdsCell s ws p) (s .runs) ≡ t → any (holdsCell s ws p) (s .runs) ≡ nonzero cells p
-      go true a t e = any-at (holdsCell s ws p) (s .runs) (of p) (stores-below p a) (own-holds p a) ∙ sym a
-      go false a true e = let f = any-found (holdsCell s ws p) (s .runs) e in absurd (true≢false (sym (holder-is p (f .0) h (f .1) (f .2) .0) ∙ a))
+      go : (b : Bool) → nonzero cells p ≡ b → (t : Bool) → any (holdsCell s ws p) (s .figures .runs) ≡ t → any (holdsCell s ws p) (s .figures .runs) ≡ nonzero cells p
+      go true a t e = any-at (holdsCell s ws p) (s .figures .runs) (of p) (stores-below p a) (own-holds p a) ∙ sym a
+      go false a true e = let f = any-found (holdsCell s ws p) (s .figures .runs) e in absurd (true≢false (sym (holder-is p (f .0) h (f .1) (f .2) .0) ∙ a))
       go false a false e = e ∙ sym a
 
   pub stores-cells : cellsOf s ws ≡ cells
@@ -92,4 +92,4 @@ module _ (s : Session) (ws : List ℕ) (cells : List Bool) (H : Stores s ws cell
   unfolding holderOf
   stores-holder p a =
       let h : p < s .fed * w = rw (H .fits .whole) at (nonzero-below cells p a) in
-      last-only (holdsCell s ws p) (s .runs) (of p) (stores-below p a) (own-holds p a) (λ r l e. sym (holder-is p r h l e .1))
+      last-only (holdsCell s ws p) (s .figures .runs) (of p) (stores-below p a) (own-holds p a) (λ r l e. sym (holder-is p r h l e .1))

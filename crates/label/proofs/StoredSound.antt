@@ -60,13 +60,13 @@ module _ (s : Session) (ws : List ℕ) (cells : List Bool) (H : Stores s ws cell
     next-starts : (r : ℕ) → lineStart ws ℓ ≤ r → suc r < lineStart ws (suc ℓ) → runEnd (linesOf s) ws r + gapOf left ≤ runStart (linesOf s) ws (suc r)
     next-starts r low high =
         let high′ : suc r < S (suc ℓ) = rw there at high in
-        let last : S (suc ℓ) ≤ s .runs = subst (λ (n : ℕ). S (suc ℓ) ≤ n) (sym (H .runs-are)) (start-le dims bytes cells (suc ℓ) (s .fed) h) in
+        let last : S (suc ℓ) ≤ s .figures .runs = subst (λ (n : ℕ). S (suc ℓ) ≤ n) (sym (H .runs-are)) (start-le dims bytes cells (suc ℓ) (s .fed) h) in
         let e : runEnd (linesOf s) ws r ≡ run r .end = ap (λ (u : Run). u .end) (H .listed r (omega arith)) in
         let b : runStart (linesOf s) ws (suc r) ≡ run (suc r) .start = ap (λ (u : Run). u .start) (H .listed (suc r) (omega arith)) in
         omega (arith, run-order dims bytes cells ℓ r (suc r) in-frame (rw here at low) (le-refl (suc r)) high′)
 
   -- runs
-  module _ (r : ℕ) (h : r < s .runs) where
+  module _ (r : ℕ) (h : r < s .figures .runs) where
     place : Located dims bytes cells (s .fed) r
     place = located dims bytes cells (s .fed) r (subst (λ (n : ℕ). r < n) (H .runs-are) h)
 
@@ -92,10 +92,10 @@ module _ (s : Session) (ws : List ℕ) (cells : List Bool) (H : Stores s ws cell
     ordered = λ r low high. omega (arith, next-starts ℓ h r low high);
   }
     where
-      before : (r : ℕ) → r < lineStart ws (suc ℓ) → r < s .runs
+      before : (r : ℕ) → r < lineStart ws (suc ℓ) → r < s .figures .runs
       before r high = omega (arith, there ℓ h, H .runs-are, start-le dims bytes cells (suc ℓ) (s .fed) h)
 
-  module _ (ranked : badRank dims ≡ false) (dimensions : hasZero (leading dims) ≡ false) (limits : tooLarge dims ≡ false) (memory : wordsNeeded dims bytes ≤ length ws) (parents : (r : ℕ) → r < s .runs → parentOf (linesOf s) ws r ≤ r) (join-count : s .joins ≡ nonRoots (parentOf (linesOf s) ws) (s .runs)) where
+  module _ (ranked : badRank dims ≡ false) (dimensions : hasZero (leading dims) ≡ false) (limits : tooLarge dims ≡ false) (memory : wordsNeeded dims bytes ≤ length ws) (parents : (r : ℕ) → r < s .figures .runs → parentOf (linesOf s) ws r ≤ r) (join-count : s .figures .joins ≡ nonRoots (parentOf (linesOf s) ws) (s .figures .runs)) where
     pub stores-sound : Sound s ws
     stores-sound = record {
       shape = record { ranked = ranked; dimensions = dimensions; limits = limits; memory = memory; within = H .fits .below };

@@ -14,7 +14,8 @@ use Rattle.frame.specs.Touches.{reaches, used, hasNbr, nbrLine, touchesBy, touc
 use Rattle.frame.specs.Kinds.{largest, holds}
 use Rattle.frame.specs.Memory.{perLine, wordsNeeded}
 use Rattle.frame.specs.Causes.{badRank, hasZero, tooLarge, firstCause, openTests, openCause, feedTests, feedCause, readTests, readCause, sizesTests, sizesCause, frameTests, frameCause}
-use Rattle.frame.specs.Plain.{Figures, unless, kept, feeds, groupsOf, figures}
+use Rattle.frame.specs.declared.Figures.{Figures}
+use Rattle.frame.specs.Plain.{unless, kept, feeds, groupsOf, figures}
 use Rattle.frame.specs.Lists.{all, every, lastBelow, entries, padded, setAll}
 use Rattle.forest.specs.Forest.{up, rootOf, own, roots, nonRoots, numberIn, grouping}
 use Rattle.geo.specs.Geometry.{shapeSound}
@@ -72,7 +73,7 @@ junk = replicate 9 5
 
 -- 256 cells, each a group of its own: more than u8 holds
 abbrev pub wide : Session
-wide = record { rank = 1; shape = 256 ∷ 0 ∷ 0 ∷ 0 ∷ []; structure = replicate 81 0; fed = 1; runs = 256; joins = 0 }
+wide = record { rank = 1; shape = 256 ∷ 0 ∷ 0 ∷ 0 ∷ []; structure = replicate 81 0; fed = 1; figures = record { runs = 256; joins = 0 } }
 
 abbrev pub wideWords : List ℕ
 wideWords = 0 ∷ 256 ∷ gather (λ r. r ∷ suc r ∷ r ∷ 7 ∷ []) 0 256
@@ -83,4 +84,4 @@ put i v = set (two .words) i v
 
 -- records of the frame, with other figures
 abbrev pub held : ℕ → ℕ → ℕ → Session
-held l r j = record { rank = 2; shape = 3 ∷ 3 ∷ 0 ∷ 0 ∷ []; structure = cross ++ replicate 72 0; fed = l; runs = r; joins = j }
+held l r j = record { rank = 2; shape = 3 ∷ 3 ∷ 0 ∷ 0 ∷ []; structure = cross ++ replicate 72 0; fed = l; figures = record { runs = r; joins = j } }

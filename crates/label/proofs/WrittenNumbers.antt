@@ -6,11 +6,11 @@ use mathlib.Core.List.{List}
 use Prim.Native.Nat.{ℕ, suc, _+_, _*_, _/_, _%_, _≤_, _<_}
 use native.Mathlib.Nat.{le-refl, mod-lt, mul-assoc, mul-le-mul-right, div-add-mod', div-lt-iff-lt-mul}
 use native.Mathlib.Omega.{arith}
-use lib.ListN.{length, getD}
+use lib.ListN.{length}
 use lib.Seq.{ext-getD}
 use Rattle.frame.specs.Shape.{size, width}
 use Rattle.frame.specs.ChainRule.{nonzero}
-use Rattle.frame.specs.Kinds.{Number, largest}
+use Rattle.frame.specs.Kinds.{Number, largest, Value, write}
 use Rattle.frame.specs.Memory.{stride, perLine, wordsNeeded}
 use Rattle.frame.specs.Words.{lineStart, parentOf}
 use Rattle.frame.proofs.ShapeLaws.{factor-pos, size-lines}
@@ -20,7 +20,7 @@ use Rattle.frame.proofs.ListLaws.{listed-at, listed-length}
 use Rattle.forest.specs.Forest.{numberIn}
 use Rattle.geo.specs.declared.Geo.{Geo}
 use Rattle.geo.specs.Geometry.{GeoOf}
-use Rattle.write.specs.Writes.{NamesReady, named, LinesHeld, WriteReady, AtCell, LinesWritten}
+use Rattle.write.specs.Writes.{NamesReady, named, LinesHeld, WriteReady, outputAt, AtCell, LinesWritten}
 use Rattle.label.specs.declared.Session.{Session}
 use Rattle.label.specs.Record.{shapeOf, structureOf, linesOf}
 use Rattle.label.specs.Sound.{Sound}
@@ -55,7 +55,7 @@ module _ (s : Session) (ws : List ℕ) (S : Sound s ws) where
   -- ---- ready
 
   -- the memory has room for the runs, which are at most h in each line
-  pub names-ready : NamesReady (linesOf s) (s .runs) ws
+  pub names-ready : NamesReady (linesOf s) (s .figures .runs) ws
   unfolding wordsNeeded
   names-ready = record {
     room = omega (arith, S .shape .memory, H .runs-are, starts-few (shapeOf s) (structureOf s) cells (s .fed), mul-le-mul-right h (S .shape .within), mul-assoc stride L h);
@@ -67,7 +67,7 @@ module _ (s : Session) (ws : List ℕ) (S : Sound s ws) where
       h = perLine (shapeOf s) (structureOf s)
 
   -- a run of a fed line is one of the record's
-  line-run : (ℓ r : ℕ) → ℓ < s .fed → r < lineStart ws (suc ℓ) → r < s .runs
+  line-run : (ℓ r : ℕ) → ℓ < s .fed → r < lineStart ws (suc ℓ) → r < s .figures .runs
   line-run ℓ r h l = omega (arith, starts-rise s ws S (suc ℓ) (s .fed) h (le-refl (s .fed)), S .words .last)
 
   lines-held : LinesHeld L w (s .fed) ws
@@ -78,9 +78,9 @@ module _ (s : Session) (ws : List ℕ) (S : Sound s ws) where
     inside = λ r h. S .words .inside r (rw (S .words .last) at h);
   }
 
-  pub write-ready : (largest out : ℕ) → rootCount s ws ≤ largest → out ≡ size (shapeOf s) → WriteReady (linesOf s) (width (shapeOf s)) (s .fed) ws largest out
+  pub write-ready : (kind : Number) (out : ℕ) → rootCount s ws ≤ largest kind → out ≡ size (shapeOf s) → WriteReady kind (linesOf s) (width (shapeOf s)) (s .fed) ws out
   unfolding rootCount
-  write-ready largest out fits e = record {
+  write-ready kind out fits e = record {
     lines = lines-held;
     runs = rw (S .words .last) names-ready;
     fits = rw (S .words .last) fits;
@@ -113,32 +113,36 @@ module _ (s : Session) (ws : List ℕ) (S : Sound s ws) where
     at-held : (r : ℕ) → AtCell L (s .fed) ws ℓ x r → nonzero cells p ≡ true
     at-held r c =
         let held = parts-hold s ws p r (record { low = c .low; high = c .high; covers = c .covers }) in
-        nonzero-held s ws p (div-lt-iff-lt-mul width-pos .0 (c .is-fed)) ∙ any-at (holdsCell s ws p) (s .runs) r (line-run ℓ r (c .is-fed) (c .high)) held
+        nonzero-held s ws p (div-lt-iff-lt-mul width-pos .0 (c .is-fed)) ∙ any-at (holdsCell s ws p) (s .figures .runs) r (line-run ℓ r (c .is-fed) (c .high)) held
 
-    number-written : (ws′ out out′ : List ℕ) → LinesWritten L w (s .fed) ws ws′ out out′ → getD out′ p 0 ≡ numberAt s ws p
+    number-written : (kind : Number) (ws′ : List ℕ) (out out′ : List (Value kind)) → LinesWritten kind L w (s .fed) ws ws′ out out′ → outputAt kind out′ p ≡ write kind (numberAt s ws p)
     unfolding numberAt
-    number-written ws′ out out′ W = ap (λ (q : ℕ). getD out′ q 0) (sym (div-add-mod' p w)) ∙ go (nonzero cells p) refl
+    number-written kind ws′ out out′ W = ap (outputAt kind out′) (sym (div-add-mod' p w)) ∙ go (nonzero cells p) refl
       where
-        go : (b : Bool) → nonzero cells p ≡ b → getD out′ (ℓ * w + x) 0 ≡ cond (nonzero cells p) (numberIn parent (holderOf s ws p)) 0
+        go : (b : Bool) → nonzero cells p ≡ b → outputAt kind out′ (ℓ * w + x) ≡ write kind (cond (nonzero cells p) (numberIn parent (holderOf s ws p)) 0)
         go true a = rw a (W .covered ℓ x (holderOf s ws p) (held-at a))
         go false a = rw a (W .zeros ℓ x (div-lt-iff-lt-mul width-pos .1 in-frame) (mod-lt p width-pos) (λ r c. true≢false (sym (at-held r c) ∙ a)))
 
-  pub written-numbers : (kind : Number) → (ws′ out out′ : List ℕ) → length out ≡ size (shapeOf s) → LinesWritten (linesOf s) (width (shapeOf s)) (s .fed) ws ws′ out out′
+  pub written-numbers : (kind : Number) (ws′ : List ℕ) (out out′ : List (Value kind)) → length out ≡ size (shapeOf s) → LinesWritten kind (linesOf s) (width (shapeOf s)) (s .fed) ws ws′ out out′
       → (ws′ ≡ withNames s ws) × (out′ ≡ numbersHeld s ws kind)
   unfolding withNames
   written-numbers kind ws′ out out′ e W = (
     W .names ∙ ap (λ (n : ℕ). named L n ws) (S .words .last),
-    ext-getD 0 out′ (numbersHeld s ws kind) (long ∙ sym (listed-length (numberAt s ws) (size (shapeOf s))))
-        (λ p h. let l : p < size (shapeOf s) = rw long at h in number-written p l ws′ out out′ W ∙ sym (listed-at (numberAt s ws) (size (shapeOf s)) p 0 l)),
+    ext-getD (write kind 0) out′ (numbersHeld s ws kind) (long ∙ sym (listed-length number (size (shapeOf s))))
+        (λ p h. let l : p < size (shapeOf s) = rw long at h in number-written p l kind ws′ out out′ W ∙ sym (listed-at number (size (shapeOf s)) p (write kind 0) l)),
   )
     where
+      -- cell p's number, as it is written
+      number : ℕ → Value kind
+      number p = write kind (numberAt s ws p)
+
       long : length out′ ≡ size (shapeOf s)
       long = W .long ∙ e
 
 -- the same, in the names of the record's geometry
 module _ (kind : Number) (s : Session) (ws : List ℕ) (out : ℕ) (R : ReadAccepted kind s ws out) (g : Geo) (K : GeoOf (s .rank) (s .shape) (s .structure) g) where
-  pub read-ready : WriteReady (g .lines) (g .width) (s .fed) ws (largest kind) out
-  read-ready = rw (geo-lines s ws g K, geo-width s ws g K) (write-ready s ws (R .is-sound) (largest kind) out (R .fits) (R .places))
+  pub read-ready : WriteReady kind (g .lines) (g .width) (s .fed) ws out
+  read-ready = rw (geo-lines s ws g K, geo-width s ws g K) (write-ready s ws (R .is-sound) kind out (R .fits) (R .places))
 
-  pub read-done : (ws′ : List ℕ) (to to′ : List ℕ) → length to ≡ out → LinesWritten (g .lines) (g .width) (s .fed) ws ws′ to to′ → (ws′ ≡ withNames s ws) × (to′ ≡ numbersHeld s ws kind)
+  pub read-done : (ws′ : List ℕ) (to to′ : List (Value kind)) → length to ≡ out → LinesWritten kind (g .lines) (g .width) (s .fed) ws ws′ to to′ → (ws′ ≡ withNames s ws) × (to′ ≡ numbersHeld s ws kind)
   read-done ws′ to to′ long W = written-numbers s ws (R .is-sound) kind ws′ to to′ (long ∙ R .places) (rw (← geo-lines s ws g K, ← geo-width s ws g K) W)

@@ -69,7 +69,7 @@ module _ (s : Session) (ws : List ℕ) (S : Sound s ws) where
     pub inside : (p : ℕ) → from ≤ p → p < to → (nonzero cells p ≡ true) × (holderOf s ws p ≡ r)
     pub only : (p : ℕ) → nonzero cells p ≡ true → holderOf s ws p ≡ r → (from ≤ p) × (p < to)
 
-  module _ (r : ℕ) (h : r < s .runs) where
+  module _ (r : ℕ) (h : r < s .figures .runs) where
     -- the line of r
     record OfLine : Type 0 where
       pub ℓ : ℕ
@@ -157,7 +157,7 @@ module _ (s : Session) (ws : List ℕ) (S : Sound s ws) where
             join n (k .0) (omega (arith, k .1)) (k .2)
 
     -- run n adds its cells where its number is g
-    count-run : (n : ℕ) → n < s .runs → count (heldBelow (suc n)) (size (shapeOf s)) ≡ cond (eqb (number n) g) (runEnd L ws n - runStart L ws n) 0 + count (heldBelow n) (size (shapeOf s))
+    count-run : (n : ℕ) → n < s .figures .runs → count (heldBelow (suc n)) (size (shapeOf s)) ≡ cond (eqb (number n) g) (runEnd L ws n - runStart L ws n) 0 + count (heldBelow n) (size (shapeOf s))
     count-run n h = go (eqb (number n) g) refl
       where
         K : RunInterval n
@@ -177,7 +177,7 @@ module _ (s : Session) (ws : List ℕ) (S : Sound s ws) where
         go true t = rw t (omega (arith, K .long, count-interval (heldBelow n) (heldBelow (suc n)) (K .from) (K .to) (K .upto) off (on (eqb-true _ _ t)) outside (size (shapeOf s)) (K .below)))
         go false t = rw t (omega (arith, count-same (heldBelow (suc n)) (heldBelow n) (size (shapeOf s)) (λ p l. same-below n p (λ a e q. eqb-false _ _ t q))))
 
-    count-runs : (n : ℕ) → n ≤ s .runs → count (heldBelow n) (size (shapeOf s)) ≡ runCells L ws g n
+    count-runs : (n : ℕ) → n ≤ s .figures .runs → count (heldBelow n) (size (shapeOf s)) ≡ runCells L ws g n
     unfolding runCells
     count-runs zero h = ap (count (heldBelow 0)) (sym (zero-add (size (shapeOf s)))) ∙ count-beyond (heldBelow 0) 0 (size (shapeOf s)) none ∙ count-none (heldBelow 0)
       where
@@ -189,25 +189,25 @@ module _ (s : Session) (ws : List ℕ) (S : Sound s ws) where
             go false = refl
     count-runs (suc n) h = count-run n h ∙ ap (λ (k : ℕ). cond (eqb (number n) g) (runEnd L ws n - runStart L ws n) 0 + k) (count-runs n (omega arith))
 
-    cells-counted : runCells L ws g (s .runs) ≡ count (heldBelow (s .runs)) (size (shapeOf s))
-    cells-counted = sym (count-runs (s .runs) (le-refl (s .runs)))
+    cells-counted : runCells L ws g (s .figures .runs) ≡ count (heldBelow (s .figures .runs)) (size (shapeOf s))
+    cells-counted = sym (count-runs (s .figures .runs) (le-refl (s .figures .runs)))
 
     -- a zero or an unfed cell has the number 0, which is no group's
-    size-runs : 0 < g → sizeAt s ws g ≡ runCells (linesOf s) ws g (s .runs)
+    size-runs : 0 < g → sizeAt s ws g ≡ runCells (linesOf s) ws g (s .figures .runs)
     unfolding sizeAt numberAt
-    size-runs h = count-same _ (heldBelow (s .runs)) (size (shapeOf s)) (λ p l. at p (nonzero cells p) refl) ∙ sym cells-counted
+    size-runs h = count-same _ (heldBelow (s .figures .runs)) (size (shapeOf s)) (λ p l. at p (nonzero cells p) refl) ∙ sym cells-counted
       where
-        at : (p : ℕ) (b : Bool) → nonzero cells p ≡ b → eqb (cond (nonzero cells p) (number (holderOf s ws p)) 0) g ≡ heldBelow (s .runs) p
-        at p true a = rw (a, lt-ltb (holderOf s ws p) (s .runs) (rw (stores-holder s ws cells H p a) (stores-below s ws cells H p a))) refl
+        at : (p : ℕ) (b : Bool) → nonzero cells p ≡ b → eqb (cond (nonzero cells p) (number (holderOf s ws p)) 0) g ≡ heldBelow (s .figures .runs) p
+        at p true a = rw (a, lt-ltb (holderOf s ws p) (s .figures .runs) (rw (stores-holder s ws cells H p a) (stores-below s ws cells H p a))) refl
         at p false a = rw a (ne-eqb 0 g (λ z. omega arith))
 
     -- no more than the frame's cells
-    cells-fit : runCells L ws g (s .runs) < 4294967296
-    cells-fit = omega (arith, cells-counted, count-most (heldBelow (s .runs)) (size (shapeOf s)), limits s ws S .2)
+    cells-fit : runCells L ws g (s .figures .runs) < 4294967296
+    cells-fit = omega (arith, cells-counted, count-most (heldBelow (s .figures .runs)) (size (shapeOf s)), limits s ws S .2)
 
   -- ---- ready, and written
 
-  pub sizes-ready : (n : ℕ) → n ≡ rootCount s ws → SizesReady (linesOf s) (s .runs) ws n
+  pub sizes-ready : (n : ℕ) → n ≡ rootCount s ws → SizesReady (linesOf s) (s .figures .runs) ws n
   unfolding rootCount
   sizes-ready n e = record {
     runs = names-ready s ws S;
@@ -216,7 +216,7 @@ module _ (s : Session) (ws : List ℕ) (S : Sound s ws) where
     small = cells-fit;
   }
 
-  pub written-sizes : (ws′ out out′ : List ℕ) → length out ≡ rootCount s ws → SizesWritten (linesOf s) (s .runs) ws ws′ out out′ → (ws′ ≡ withNames s ws) × (out′ ≡ sizesHeld s ws)
+  pub written-sizes : (ws′ out out′ : List ℕ) → length out ≡ rootCount s ws → SizesWritten (linesOf s) (s .figures .runs) ws ws′ out out′ → (ws′ ≡ withNames s ws) × (out′ ≡ sizesHeld s ws)
   unfolding withNames
   written-sizes ws′ out out′ e W = (
     W .names,
@@ -224,15 +224,15 @@ module _ (s : Session) (ws : List ℕ) (S : Sound s ws) where
         (λ g h. let l : g < length out = rw (W .long) at h in W .counts g l ∙ sym (size-listed g (rw e at l))),
   )
     where
-      size-listed : (g : ℕ) → g < rootCount s ws → getD (sizesHeld s ws) g 0 ≡ runCells L ws (suc g) (s .runs)
+      size-listed : (g : ℕ) → g < rootCount s ws → getD (sizesHeld s ws) g 0 ≡ runCells L ws (suc g) (s .figures .runs)
       size-listed g l =
           let q : 1 + g ≡ suc g = omega arith in
           listed-from (sizeAt s ws) 1 (rootCount s ws) g 0 l ∙ ap (sizeAt s ws) q ∙ size-runs (suc g) (omega arith)
 
 -- the same, in the names of the record's geometry
 module _ (s : Session) (ws : List ℕ) (S : Sound s ws) (out : ℕ) (exact : out ≡ rootCount s ws) (g : Geo) (K : GeoOf (s .rank) (s .shape) (s .structure) g) where
-  pub counts-ready : SizesReady (g .lines) (s .runs) ws out
+  pub counts-ready : SizesReady (g .lines) (s .figures .runs) ws out
   counts-ready = rw (geo-lines s ws g K) (sizes-ready s ws S out exact)
 
-  pub counts-done : (ws′ to to′ : List ℕ) → length to ≡ out → SizesWritten (g .lines) (s .runs) ws ws′ to to′ → (ws′ ≡ withNames s ws) × (to′ ≡ sizesHeld s ws)
+  pub counts-done : (ws′ to to′ : List ℕ) → length to ≡ out → SizesWritten (g .lines) (s .figures .runs) ws ws′ to to′ → (ws′ ≡ withNames s ws) × (to′ ≡ sizesHeld s ws)
   counts-done ws′ to to′ long W = written-sizes s ws S ws′ to to′ (long ∙ exact) (rw (← geo-lines s ws g K) W)

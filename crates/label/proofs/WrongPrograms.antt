@@ -6,7 +6,8 @@ use Prim.Native.Nat.{ℕ, suc, _≤_, _<_}
 use native.Mathlib.Omega.{arith}
 use lib.ListN.{length, getD, set, replicate}
 use Rattle.frame.specs.Kinds.{u8}
-use Rattle.frame.specs.Plain.{Figures, Answer, fed, counted, refused}
+use Rattle.frame.specs.declared.Figures.{Figures}
+use Rattle.frame.specs.Plain.{Answer, fed, counted, refused}
 use Rattle.frame.specs.Words.{namePlace, parentOf}
 use Rattle.frame.proofs.SetLaws.{setAll-other, setAll-at}
 use Rattle.forest.specs.Forest.{numberIn}
@@ -78,7 +79,7 @@ stores-no-words a s P = let z : _≡_ {A = ℕ} 7 4 = P .accepted refl .others 2
 -- joins invented, or padded with idle unions: in the record, in the answer
 padded-joins : (a : Answer) (ws : List ℕ) → Third a (held 3 5 5) ws → ⊥
 unfolding begun one two computed
-padded-joins a ws P = let z : _≡_ {A = ℕ} 5 4 = ap (λ (x : Session). x .joins) (P .session) in omega arith
+padded-joins a ws P = let z : _≡_ {A = ℕ} 5 4 = ap (λ (x : Session). x .figures .joins) (P .session) in omega arith
 
 told-wrong : (s : Session) (ws : List ℕ) → Third (fed 3 (f 5 5)) s ws → ⊥
 unfolding begun one two computed
@@ -161,7 +162,7 @@ changes-parent a s ws out P e = let z : word 14 ws ≡ 0 = ap (word 14) (P .word
 
 another-record : (a : Answer) (ws out : List ℕ) → Reading a (held 2 4 3) ws out → ⊥
 unfolding begun one two computed
-another-record a ws out P = let z : _≡_ {A = ℕ} 3 2 = ap (λ (x : Session). x .joins) (P .session) in omega arith
+another-record a ws out P = let z : _≡_ {A = ℕ} 3 2 = ap (λ (x : Session). x .figures .joins) (P .session) in omega arith
 
 -- refused with 9, it writes the output; with 10, it names runs
 writes-nine : (a : Answer) (s : Session) (ws : List ℕ)

@@ -16,9 +16,9 @@ openNumber O.Accepted = 0
 openNumber (O.Refused c) = causeNumber c
 
 abbrev pub feedAnswer : FeedAnswer → Answer
-feedAnswer (F.Accepted l r j) = fed l (record { runs = r; joins = j })
+feedAnswer (F.Accepted l f) = fed l f
 feedAnswer (F.Refused c) = refused (causeNumber c)
 
 abbrev pub readAnswer : ReadAnswer → Answer
-readAnswer (R.Accepted n r j) = counted n (record { runs = r; joins = j })
+readAnswer (R.Accepted n f) = counted n f
 readAnswer (R.Refused c) = refused (causeNumber c)

@@ -11,6 +11,7 @@ use Rattle.frame.specs.Shape.{width, leading}
 use Rattle.frame.specs.Runs.{runs, Run, runsBefore, frameRun}
 use Rattle.frame.specs.Touches.{touches}
 use Rattle.frame.specs.Causes.{feedCause}
+use Rattle.frame.specs.declared.Figures.{Figures}
 use Rattle.frame.specs.Plain.{Answer, fed, unless, kept}
 use Rattle.frame.specs.Words.{linePlace, startPlace, endPlace, lineStart, parentOf, storedRun, NoParent}
 use Rattle.frame.specs.Lists.{setAll}
@@ -18,19 +19,22 @@ use Rattle.forest.specs.Forest.{rootOf}
 use Rattle.label.specs.declared.Session.{Session}
 use Rattle.label.specs.Record.{shapeOf, structureOf, linesOf, withFigures}
 use Rattle.label.specs.Sound.{sound}
-use Rattle.label.specs.Held.{figuresOf, groupingOf}
+use Rattle.label.specs.Held.{groupingOf}
 
 -- ---- the runs afterwards: those that the words hold, then those of the new cells
 
 unfoldable pub runsAfter : Session → List Bool → ℕ
-runsAfter s cells = s .runs + runs (shapeOf s) (structureOf s) cells
+runsAfter s cells = s .figures .runs + runs (shapeOf s) (structureOf s) cells
 
 -- how many stand before line ℓ, and run r
 unfoldable pub startAfter : Session → List ℕ → List Bool → ℕ → ℕ
-startAfter s ws cells ℓ = cond (leb ℓ (s .fed)) (lineStart ws ℓ) (s .runs + runsBefore (shapeOf s) (structureOf s) cells (ℓ - s .fed))
+startAfter s ws cells ℓ =
+    cond (leb ℓ (s .fed)) (lineStart ws ℓ) (s .figures .runs + runsBefore (shapeOf s) (structureOf s) cells (ℓ - s .fed))
 
 unfoldable pub runAfter : Session → List ℕ → List Bool → ℕ → Run
-runAfter s ws cells r = cond (ltb r (s .runs)) (storedRun (linesOf s) ws r) (frameRun (shapeOf s) (structureOf s) cells (r - s .runs))
+runAfter s ws cells r =
+    cond (ltb r (s .figures .runs)) (storedRun (linesOf s) ws r)
+    (frameRun (shapeOf s) (structureOf s) cells (r - s .figures .runs))
 
 module _ (s : Session) (ws : List ℕ) (k : ℕ) (cells : List Bool) where
   -- ---- the grouping afterwards
@@ -45,8 +49,11 @@ module _ (s : Session) (ws : List ℕ) (k : ℕ) (cells : List Bool) where
 
   -- ---- the record afterwards
 
+  abbrev pub figuresAfter : Figures
+  figuresAfter = record { runs = runsAfter s cells; joins = joins feedEdges }
+
   unfoldable pub feedRecord : Session
-  feedRecord = withFigures s (s .fed + k) (runsAfter s cells) (joins feedEdges)
+  feedRecord = withFigures s (s .fed + k) figuresAfter
 
   -- ---- the words afterwards, parents aside: the new line starts, and the new runs' starts and ends, are written
 
@@ -55,9 +62,9 @@ module _ (s : Session) (ws : List ℕ) (k : ℕ) (cells : List Bool) where
 
   unfoldable pub withRuns : List ℕ
   withRuns =
-      setAll (λ i. endPlace (linesOf s) (s .runs + i)) (λ i. runAfter s ws cells (s .runs + i) .end)
+      setAll (λ i. endPlace (linesOf s) (s .figures .runs + i)) (λ i. runAfter s ws cells (s .figures .runs + i) .end)
       (runs (shapeOf s) (structureOf s) cells)
-      (setAll (λ i. startPlace (linesOf s) (s .runs + i)) (λ i. runAfter s ws cells (s .runs + i) .start)
+      (setAll (λ i. startPlace (linesOf s) (s .figures .runs + i)) (λ i. runAfter s ws cells (s .figures .runs + i) .start)
       (runs (shapeOf s) (structureOf s) cells)
       withLines)
 
@@ -77,7 +84,7 @@ module _ (s : Session) (ws : List ℕ) (k : ℕ) (cells : List Bool) where
 
   -- the answer, and the record and the words afterwards
   pub record FeedPromise (a : Answer) (s′ : Session) (ws′ : List ℕ) : Type 0 where
-    pub said : a ≡ unless feedCauseOf (fed (s .fed + k) (figuresOf feedRecord))
+    pub said : a ≡ unless feedCauseOf (fed (s .fed + k) (feedRecord .figures))
     pub session : s′ ≡ kept feedCauseOf s feedRecord
     pub refusal : 0 < feedCauseOf → ws′ ≡ ws
     pub accepted : feedCauseOf ≡ 0 → FeedWords ws′

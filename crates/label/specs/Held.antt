@@ -10,16 +10,11 @@ use Rattle.groups.specs.Groups.{Edge, Joined, count}
 use Rattle.frame.specs.Shape.{size, width}
 use Rattle.frame.specs.ChainRule.{nonzero, any, range}
 use Rattle.frame.specs.Kinds.{Number, Value, write}
-use Rattle.frame.specs.Plain.{Figures}
 use Rattle.frame.specs.Words.{lineStart, runStart, runEnd, parentOf}
 use Rattle.frame.specs.Lists.{lastBelow}
 use Rattle.forest.specs.Forest.{roots, numberIn, grouping}
 use Rattle.label.specs.declared.Session.{Session}
 use Rattle.label.specs.Record.{shapeOf, linesOf}
-
--- the record's figures, as its answers give them
-abbrev pub figuresOf : Session → Figures
-figuresOf s = record { runs = s .runs; joins = s .joins }
 
 module _ (s : Session) (ws : List ℕ) where
   abbrev w : ℕ
@@ -38,17 +33,17 @@ module _ (s : Session) (ws : List ℕ) where
 
   -- the cells of the lines fed: those that a run holds are nonzero
   unfoldable pub cellsOf : List Bool
-  cellsOf = map (λ p. any (holdsCell p) (s .runs)) (range 0 (s .fed * w))
+  cellsOf = map (λ p. any (holdsCell p) (s .figures .runs)) (range 0 (s .fed * w))
 
   -- the run that holds cell p
   unfoldable pub holderOf : ℕ → ℕ
-  holderOf p = lastBelow (holdsCell p) (s .runs)
+  holderOf p = lastBelow (holdsCell p) (s .figures .runs)
 
   -- ---- groups
 
   -- the grouping that the parents hold, as edges between runs
   abbrev pub groupingOf : List Edge
-  groupingOf = grouping parent (s .runs)
+  groupingOf = grouping parent (s .figures .runs)
 
   -- so of two cells that runs hold: they are of one run, or of a run and its parent
   pub record HeldStep (p q : ℕ) : Type 0 where
@@ -58,7 +53,7 @@ module _ (s : Session) (ws : List ℕ) where
 
   -- document 01's n of a sound record of any origin: the count of its roots
   unfoldable pub rootCount : ℕ
-  rootCount = roots parent (s .runs)
+  rootCount = roots parent (s .figures .runs)
 
   -- the number of cell p, 0 for a zero or an unfed one
   unfoldable pub numberAt : ℕ → ℕ

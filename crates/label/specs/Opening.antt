@@ -5,7 +5,7 @@ use mathlib.Core.List.{List, []}
 use Prim.Native.Nat.{ℕ}
 use lib.ListN.{length, set}
 use Rattle.frame.specs.Causes.{openCause}
-use Rattle.frame.specs.Plain.{kept}
+use Rattle.frame.specs.Plain.{zeroFigures, kept}
 use Rattle.frame.specs.Words.{linePlace}
 use Rattle.frame.specs.Lists.{padded}
 use Rattle.label.specs.declared.Session.{Session}
@@ -13,7 +13,7 @@ use Rattle.label.specs.declared.Session.{Session}
 -- the record and the words of an accepted opening: it writes 0 to word 0 only
 abbrev pub openRecord : List ℕ → List ℕ → Session
 openRecord shape structure =
-    record { rank = length shape; shape = padded 4 shape; structure = padded 81 structure; fed = 0; runs = 0; joins = 0 }
+    record { rank = length shape; shape = padded 4 shape; structure = padded 81 structure; fed = 0; figures = zeroFigures }
 
 abbrev pub openWords : List ℕ → List ℕ
 openWords ws = set ws (linePlace 0) 0

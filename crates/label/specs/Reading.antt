@@ -14,15 +14,15 @@ use Rattle.forest.specs.Forest.{numberIn}
 use Rattle.label.specs.declared.Session.{Session}
 use Rattle.label.specs.Record.{shapeOf, linesOf}
 use Rattle.label.specs.Sound.{sound}
-use Rattle.label.specs.Held.{figuresOf, rootCount, numbersHeld, sizesHeld}
+use Rattle.label.specs.Held.{rootCount, numbersHeld, sizesHeld}
 
 -- each run's name word becomes its number, and every other word stands
 unfoldable pub withNames : Session → List ℕ → List ℕ
-withNames s ws = setAll (namePlace (linesOf s)) (numberIn (parentOf (linesOf s) ws)) (s .runs) ws
+withNames s ws = setAll (namePlace (linesOf s)) (numberIn (parentOf (linesOf s) ws)) (s .figures .runs) ws
 
 -- n, runs and joins
 abbrev pub countedOf : Session → List ℕ → Answer
-countedOf s ws = counted (rootCount s ws) (figuresOf s)
+countedOf s ws = counted (rootCount s ws) (s .figures)
 
 -- 6, 9, 10, or 0
 unfoldable pub readCauseOf : Number → Session → List ℕ → ℕ → ℕ

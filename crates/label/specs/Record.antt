@@ -4,6 +4,7 @@ use mathlib.Core.List.{List}
 use Prim.Native.Nat.{ℕ, _^_}
 use Rattle.frame.specs.Shape.{lines}
 use Rattle.frame.specs.Lists.{entries}
+use Rattle.frame.specs.declared.Figures.{Figures}
 use Rattle.label.specs.declared.Session.{Session}
 
 -- the record's arrays: of the shape the first rank entries, of the structure the first 3^rank
@@ -18,6 +19,6 @@ structureOf s = entries (3 ^ s .rank) (s .structure)
 abbrev pub linesOf : Session → ℕ
 linesOf s = lines (shapeOf s)
 
--- the record with other figures: lines fed, runs, joins
-abbrev pub withFigures : Session → ℕ → ℕ → ℕ → Session
-withFigures s fed runs joins = record { rank = s .rank; shape = s .shape; structure = s .structure; fed = fed; runs = runs; joins = joins }
+-- the record with other lines fed and other figures
+abbrev pub withFigures : Session → ℕ → Figures → Session
+withFigures s fed f = record { rank = s .rank; shape = s .shape; structure = s .structure; fed = fed; figures = f }

@@ -35,11 +35,11 @@ module _ (s : Session) (ws : List ℕ) where
     -- the clauses about shape, memory and lines fed: they stand in crate geo, with the code that tests them
     pub shape : ShapeSound dims bytes (length ws) (s .fed)
     -- the clauses about the words, from word 0 to joins: they stand in crate sound, with the pass that decides them
-    pub words : WordsSound L w left (s .fed) (s .runs) (s .joins) ws
+    pub words : WordsSound L w left (s .fed) (s .figures .runs) (s .figures .joins) ws
 
   -- computed: that it decides `Sound` is proved in proofs/SoundLaws.antt
   unfoldable pub sound : Bool
   sound =
       every (shapeSound dims bytes (length ws) (s .fed)
-      ∷ wordsSound L w left (s .fed) (s .runs) (s .joins) ws
+      ∷ wordsSound L w left (s .fed) (s .figures .runs) (s .figures .joins) ws
       ∷ [])

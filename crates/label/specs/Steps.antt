@@ -42,7 +42,7 @@ module _ (s : Session) (ws : List ℕ) (k : ℕ) (cells : List Bool) where
   pub record FeedExtracted (g : Geo) (ws′ : List ℕ) (n : ℕ) : Type 0 where
     pub given : FeedAccepted
     pub geometry : GeoOf (s .rank) (s .shape) (s .structure) g
-    pub block : Block (leftOn (shapeOf s) (structureOf s)) (width (shapeOf s)) (linesOf s) (s .fed) (s .runs) k cells ws ws′ n
+    pub block : Block (leftOn (shapeOf s) (structureOf s)) (width (shapeOf s)) (linesOf s) (s .fed) (s .figures .runs) k cells ws ws′ n
 
   -- the record and the words after the feed
   pub record FeedDone (s′ : Session) (ws′ : List ℕ) : Type 0 where

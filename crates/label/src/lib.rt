@@ -20,20 +20,18 @@ ghost use Rattle.frame.specs.Kinds.{nz, nzℤ, nzF, Number, u8, u16, u32, large
 ghost use Rattle.frame.specs.Plain.{fed, counted, unless};
 ghost use Rattle.causes.specs.Cases.{checkNumber};
 ghost use Rattle.label.specs.Cases.{openNumber, feedAnswer, readAnswer};
-ghost use Rattle.label.specs.Held.{figuresOf};
 ghost use Rattle.label.specs.Opening.{OpenPromise, openRecord, blank};
 ghost use Rattle.label.specs.Feeding.{feedCauseOf, FeedPromise};
 ghost use Rattle.label.specs.Reading.{readCauseOf, sizesCauseOf, ReadPromise, SizesPromise};
 ghost use Rattle.label.specs.Steps.{soundCauseOf, RecordFound, FeedExtracted, FeedDone, SomeExtracted};
 
-// Shape and structure, then lines fed, runs and joins, so far. Entries past the rank are 0 after an opening.
+// Shape and structure, then lines fed and the figures, so far. Entries past the rank are 0 after an opening.
 pub struct Session {
     pub rank: usize,
     pub shape: [usize; 4],
     pub structure: [u8; 81],
     pub fed: usize,
-    pub runs: usize,
-    pub joins: usize,
+    pub figures: frame::Figures,
 }
 
 pub enum OpenAnswer {
@@ -41,19 +39,18 @@ pub enum OpenAnswer {
     Refused(causes::Cause),
 }
 
-// A feed's: lines fed, runs and joins, so far.
+// A feed's: lines fed and the figures, so far.
 pub enum FeedAnswer {
     Accepted {
         lines: usize,
-        runs: usize,
-        joins: usize,
+        figures: frame::Figures,
     },
     Refused(causes::Cause),
 }
 
 // A reading's, a size call's and a whole frame's.
 pub enum ReadAnswer {
-    Accepted { n: usize, runs: usize, joins: usize },
+    Accepted { n: usize, figures: frame::Figures },
     Refused(causes::Cause),
 }
 
@@ -111,8 +108,7 @@ fn open_record(shape: &[usize], structure: &[u8]) -> Session
         shape: geo::shape_of(shape),
         structure: geo::structure_of(structure),
         fed: 0,
-        runs: 0,
-        joins: 0,
+        figures: frame::Figures::zero(),
     }
 }
 
@@ -125,8 +121,7 @@ fn blank_record() -> Session
         shape: [0; 4],
         structure: [0; 81],
         fed: 0,
-        runs: 0,
-        joins: 0,
+        figures: frame::Figures::zero(),
     }
 }
 
@@ -148,7 +143,7 @@ impl Session {
             return causes::refused(causes::Cause::Unsound);
         }
         let g = shaped.geo;
-        if !sound::words_sound(words, g, self.fed, self.runs, self.joins) {
+        if !sound::words_sound(words, g, self.fed, self.figures.runs, self.figures.joins) {
             return causes::refused(causes::Cause::Unsound);
         }
         causes::passed(g)
@@ -186,7 +181,7 @@ impl Session {
             return answer_feed(self, check);
         }
         let g = found.geo;
-        let runs = block::extract_block_u8(cells, g, words, self.fed, self.runs, k);
+        let runs = block::extract_block_u8(cells, g, words, self.fed, self.figures.runs, k);
         answer_feed(self.union_lines(words, g, k, runs), check)
     }
 
@@ -200,7 +195,7 @@ impl Session {
             return answer_feed(self, check);
         }
         let g = found.geo;
-        let runs = block::extract_block_u16(cells, g, words, self.fed, self.runs, k);
+        let runs = block::extract_block_u16(cells, g, words, self.fed, self.figures.runs, k);
         answer_feed(self.union_lines(words, g, k, runs), check)
     }
 
@@ -214,7 +209,7 @@ impl Session {
             return answer_feed(self, check);
         }
         let g = found.geo;
-        let runs = block::extract_block_i16(cells, g, words, self.fed, self.runs, k);
+        let runs = block::extract_block_i16(cells, g, words, self.fed, self.figures.runs, k);
         answer_feed(self.union_lines(words, g, k, runs), check)
     }
 
@@ -228,7 +223,7 @@ impl Session {
             return answer_feed(self, check);
         }
         let g = found.geo;
-        let runs = block::extract_block_f32(cells, g, words, self.fed, self.runs, k);
+        let runs = block::extract_block_f32(cells, g, words, self.fed, self.figures.runs, k);
         answer_feed(self.union_lines(words, g, k, runs), check)
     }
 }
@@ -241,10 +236,13 @@ impl Session {
             FeedDone self ws k cells r (now (words .exit))) ⌝ }
     {
         let joins = block::union_block(words, g, &self.structure, self.fed, k);
+        let figures = frame::Figures {
+            runs,
+            joins: self.figures.joins + joins,
+        };
         let mut s = self;
         s.fed += k;
-        s.runs = runs;
-        s.joins += joins;
+        s.figures = figures;
         s
     }
 }
@@ -252,14 +250,14 @@ impl Session {
 // A feed that was accepted answers the record's figures, and any other its cause.
 fn answer_feed(session: Session, check: causes::Check) -> Fed
     ensures { λ r. ⌜ (r .session ≡ session)
-        × (feedAnswer (r .answer) ≡ unless (checkNumber check) (fed (session .fed) (figuresOf session))) ⌝ }
+        × (feedAnswer (r .answer) ≡ unless (checkNumber check) (fed (session .fed) (session .figures))) ⌝ }
 {
+    let figures = session.figures;
     let answer = match check {
         causes::Check::Failed(cause) => FeedAnswer::Refused(cause),
         causes::Check::Passed => FeedAnswer::Accepted {
             lines: session.fed,
-            runs: session.runs,
-            joins: session.joins,
+            figures,
         },
     };
     Fed { answer, session }
@@ -279,7 +277,7 @@ impl Session {
             return found;
         }
         let geo = found.geo;
-        let check = causes::read_check(geo, self.runs - self.joins, places, most);
+        let check = causes::read_check(geo, self.figures.runs - self.figures.joins, places, most);
         causes::Checked { check, geo }
     }
 }
@@ -331,16 +329,17 @@ impl Session {
 
 // A reading or a size call that was accepted answers n and the record's figures, and any other its cause.
 fn answer_read(session: Session, check: causes::Check) -> Read
-    requires { ⌜ (checkNumber check ≡ 0 → session .joins ≤ session .runs) ⌝ }
+    requires { ⌜ (checkNumber check ≡ 0 → session .figures .joins ≤ session .figures .runs) ⌝ }
     ensures { λ r. ⌜ (r .session ≡ session)
-        × (readAnswer (r .answer) ≡ unless (checkNumber check) (counted (session .runs - session .joins) (figuresOf session))) ⌝ }
+        × (readAnswer (r .answer) ≡ unless (checkNumber check)
+        (counted (session .figures .runs - session .figures .joins) (session .figures))) ⌝ }
 {
+    let figures = session.figures;
     let answer = match check {
         causes::Check::Failed(cause) => ReadAnswer::Refused(cause),
         causes::Check::Passed => ReadAnswer::Accepted {
-            n: session.runs - session.joins,
-            runs: session.runs,
-            joins: session.joins,
+            n: figures.runs - figures.joins,
+            figures,
         },
     };
     Read { answer, session }
@@ -359,7 +358,7 @@ impl Session {
             return found;
         }
         let geo = found.geo;
-        let check = causes::sizes_check(self.runs - self.joins, places);
+        let check = causes::sizes_check(self.figures.runs - self.figures.joins, places);
         causes::Checked { check, geo }
     }
 
@@ -373,7 +372,7 @@ impl Session {
             return answer_read(self, check);
         }
         let g = found.geo;
-        write::size_block(words, g.lines, self.runs, sizes);
+        write::size_block(words, g.lines, self.figures.runs, sizes);
         answer_read(self, check)
     }
 }

@@ -54,6 +54,13 @@ fn damage_shape(shape: [usize; 4], rank: usize, d: usize) -> [usize; 4] {
     s
 }
 
+fn damage_figures(figures: frame::Figures, d: usize) -> frame::Figures {
+    frame::Figures {
+        runs: less(plus(figures.runs, (d == 6) as usize), (d == 7) as usize),
+        joins: less(plus(figures.joins, (d == 8) as usize), (d == 9) as usize),
+    }
+}
+
 fn damage_record(session: Session, lines: usize, d: usize) -> Session {
     let shape = session.shape;
     let structure = session.structure;
@@ -62,8 +69,7 @@ fn damage_record(session: Session, lines: usize, d: usize) -> Session {
         shape: damage_shape(shape, session.rank, d),
         structure,
         fed: if d == 5 { plus(lines, 1) } else { session.fed },
-        runs: less(plus(session.runs, (d == 6) as usize), (d == 7) as usize),
-        joins: less(plus(session.joins, (d == 8) as usize), (d == 9) as usize),
+        figures: damage_figures(session.figures, d),
     }
 }
 
@@ -170,7 +176,7 @@ fn damage_run(words: &mut [u32], e: Extent, fed: usize, runs: usize, r: usize, d
 }
 
 fn damage_words(words: &mut [u32], e: Extent, session: Session, d: usize, x: u64) -> bool {
-    let runs = session.runs;
+    let runs = session.figures.runs;
     let fed = session.fed;
     if (d < RECORD) | (d >= SHORTER) {
         return false;
@@ -273,5 +279,11 @@ pub fn try_damaged(shape: &[usize], structure: &[u8], flags: &[u8], state: &mut 
     let said = done.answer;
     tally::count(state, tally::OTHER, said.number, said.number == 0);
     let session = done.session;
-    try_damages(session, e, words, less(said.b, said.c), state);
+    try_damages(
+        session,
+        e,
+        words,
+        less(said.figures.runs, said.figures.joins),
+        state,
+    );
 }

@@ -61,7 +61,7 @@ fn try_lone(width: usize, cause: usize, state: &mut [u64; 40]) {
     let fed = trial::feed(opened.session, &mut words, 1, cells, 0);
     let read = trial::read(fed.session, &mut words, width, &mut got, 0);
     let said = read.answer;
-    let agreed = (said.number == cause) & ((said.a == 255) | (cause == 10));
+    let agreed = (said.number == cause) & ((said.count == 255) | (cause == 10));
     tally::count(state, tally::OTHER, said.number, agreed);
 }
 

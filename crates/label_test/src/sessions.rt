@@ -45,16 +45,12 @@ fn check_accepted(
     let count = flood::number_cells(e, structure, flags, times(fed, e.width), &mut marks);
     layout::lay(laid, e, flags, fed);
     let joins = layout::take_parents(laid, words, &marks, e, count.runs);
-    let right = Answer {
-        number: 0,
-        a: fed,
-        b: count.runs,
-        c: less(count.runs, count.n),
-    };
+    let right = answers::accepted(fed, count);
     let answer = done.answer;
     let after = done.session;
-    let alike = answers::record_is(after, session, fed, count.runs, right.c);
-    alike & (joins == right.c) & answers::same(answer, right)
+    let figures = right.figures;
+    let alike = answers::record_is(after, session, fed, figures);
+    alike & (joins == figures.joins) & answers::same(answer, right)
 }
 
 fn check_refused(session: Session, done: Done, cause: usize) -> bool {
@@ -130,16 +126,11 @@ fn output_fits(
 }
 
 // What an accepted reading should answer.
-fn read_answer(cause: usize, n: usize, runs: usize) -> Answer {
+fn read_answer(cause: usize, count: flood::Count) -> Answer {
     if cause != 0 {
         return answers::refused(cause);
     }
-    Answer {
-        number: 0,
-        a: n,
-        b: runs,
-        c: less(runs, n),
-    }
+    answers::accepted(count.n, count)
 }
 
 // A reading or a size call. Lays out the names that it gives.
@@ -168,7 +159,7 @@ fn check_read(
     );
     let answer = done.answer;
     let after = done.session;
-    let said = answers::same(answer, read_answer(cause, count.n, count.runs));
+    let said = answers::same(answer, read_answer(cause, count));
     Turn {
         session: after,
         code: plus(kind, 4),

@@ -15,8 +15,9 @@ use Rattle.geo.proofs.CopyLaws.{front, front-done}
 use Rattle.frame.specs.Lists.{padded}
 use Rattle.frame.specs.Overlay.{overlay}
 use Rattle.frame.proofs.OverlayLaws.{length-overlay, overlay-short}
+use Rattle.frame.specs.declared.Figures.{Figures}
 use Rattle.label.specs.declared.Session.{Session}
-use Rattle.record_c.specs.Records.{recordWords, wordsOf, structureWords, recordOf, bytes, StructureReady, RecordReady}
+use Rattle.record_c.specs.Records.{recordWords, figureWords, wordsOf, structureWords, recordOf, bytes, StructureReady, RecordReady}
 
 -- ---- bytes
 
@@ -58,21 +59,24 @@ structure-ready r R = record { long = length-take-le 81 (drop 5 r) (omega (arith
 
 -- ---- a record that was written is read back
 
-module _ (rank fed runs joins : ℕ) (structure t : List ℕ) (n : length structure ≡ 81) where
-  abbrev rest : List ℕ
-  rest = structure ++ (fed ∷ runs ∷ joins ∷ t)
+module _ (rank fed : ℕ) (f : Figures) (structure t : List ℕ) (n : length structure ≡ 81) where
+  abbrev figures : List ℕ
+  figures = fed ∷ (figureWords f ++ t)
 
-  figure : (k : ℕ) → getD rest (81 + k) 0 ≡ getD (fed ∷ runs ∷ joins ∷ t) k 0
-  figure k = subst (λ (m : ℕ). getD rest (m + k) 0 ≡ getD (fed ∷ runs ∷ joins ∷ t) k 0) n (getD-append-add structure (fed ∷ runs ∷ joins ∷ t) k 0)
+  abbrev rest : List ℕ
+  rest = structure ++ figures
+
+  figure : (k : ℕ) → getD rest (81 + k) 0 ≡ getD figures k 0
+  figure k = subst (λ (m : ℕ). getD rest (m + k) 0 ≡ getD figures k 0) n (getD-append-add structure figures k 0)
 
   read-back : (shape : List ℕ) → length shape ≡ 4
-      → recordOf (rank ∷ (shape ++ rest)) ≡ record { rank = rank; shape = shape; structure = structure; fed = fed; runs = runs; joins = joins }
+      → recordOf (rank ∷ (shape ++ rest)) ≡ record { rank = rank; shape = shape; structure = structure; fed = fed; figures = f }
   unfolding recordOf
   read-back [] e = absurd (omega arith)
   read-back (a ∷ []) e = absurd (omega arith)
   read-back (a ∷ b ∷ []) e = absurd (omega arith)
   read-back (a ∷ b ∷ c ∷ []) e = absurd (omega arith)
-  read-back (a ∷ b ∷ c ∷ d ∷ []) e = rw (take-at structure (fed ∷ runs ∷ joins ∷ t) 81 n, figure 0, figure 1, figure 2) refl
+  read-back (a ∷ b ∷ c ∷ d ∷ []) e = rw (take-at structure figures 81 n, figure 0, figure 1, figure 2) refl
   read-back (a ∷ b ∷ c ∷ d ∷ x ∷ l) e = absurd (omega arith)
 
 -- an array of four, one of 81 bytes
@@ -87,14 +91,17 @@ module _ (s : Session) (F : Formed s) (r : List ℕ) (long : recordWords ≤ len
 
   words-long : length (wordsOf s) ≡ recordWords
   unfolding wordsOf
-  words-long = omega (arith, length-append (s .shape) (s .structure ++ (s .fed ∷ s .runs ∷ s .joins ∷ [])), length-append (s .structure) (s .fed ∷ s .runs ∷ s .joins ∷ []), F .shape, F .structure)
+  words-long =
+      let last = s .fed ∷ figureWords (s .figures) in
+      omega (arith, length-append (s .shape) (s .structure ++ last), length-append (s .structure) last, F .shape, F .structure)
 
-  words-then : overlay (wordsOf s) r ≡ s .rank ∷ (s .shape ++ (s .structure ++ (s .fed ∷ s .runs ∷ s .joins ∷ tail)))
+  words-then : overlay (wordsOf s) r ≡ s .rank ∷ (s .shape ++ (s .structure ++ (s .fed ∷ (figureWords (s .figures) ++ tail))))
   words-then = overlay-short (wordsOf s) r (omega (arith, words-long)) ∙ unfold wordsOf in simp append-assoc
 
   -- what is written is the record, and its words hold it
   pub written-read : recordOf (overlay (wordsOf s) r) ≡ s
-  written-read = ap recordOf words-then ∙ read-back (s .rank) (s .fed) (s .runs) (s .joins) (s .structure) tail (F .structure) (s .shape) (F .shape)
+  written-read =
+      ap recordOf words-then ∙ read-back (s .rank) (s .fed) (s .figures) (s .structure) tail (F .structure) (s .shape) (F .shape)
 
   pub written-ready : RecordReady (overlay (wordsOf s) r)
   unfolding recordOf

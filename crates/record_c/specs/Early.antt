@@ -12,7 +12,7 @@ abbrev pub short : ℕ
 short = 100
 
 abbrev pub leastAnswer : ℕ
-leastAnswer = 4
+leastAnswer = 8
 
 unfoldable pub openEarly : List ℕ → ℕ
 openEarly r = cond (ltb (length r) recordWords) short 0

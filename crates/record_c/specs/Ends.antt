@@ -6,7 +6,7 @@ use Prim.Native.Nat.{ℕ}
 use Rattle.frame.specs.Plain.{Answer, fed, counted, refused, kept}
 use Rattle.frame.specs.Overlay.{overlay}
 use Rattle.label.specs.declared.Session.{Session}
-use Rattle.record_c.specs.Records.{wordsOf}
+use Rattle.record_c.specs.Records.{figureWords, wordsOf}
 
 -- for an answer: 0, or the number of the refusal
 abbrev pub returned : Answer → ℕ
@@ -16,8 +16,8 @@ returned (refused c) = c
 
 -- its first words: lines fed or n, then the figures. A refusal writes none
 abbrev pub answerWords : Answer → List ℕ
-answerWords (fed l f) = l ∷ f .runs ∷ f .joins ∷ []
-answerWords (counted n f) = n ∷ f .runs ∷ f .joins ∷ []
+answerWords (fed l f) = l ∷ figureWords f
+answerWords (counted n f) = n ∷ figureWords f
 answerWords (refused c) = []
 
 -- the record's words after a call that returned a number: on a refusal they stand, and those past the record always do

@@ -1,4 +1,4 @@
--- A record as words: rank, shape, structure (a byte to a word), lines fed, runs and joins.
+-- A record as words: rank, shape, structure (a byte to a word), lines fed and the figures.
 -- Assumes nothing.
 use mathlib.Core.Path.{_≡_}
 use mathlib.Core.Bool.{Bool, true, _&&_}
@@ -6,15 +6,20 @@ use mathlib.Core.List.{List, [], _∷_, _++_}
 use Prim.Native.Nat.{ℕ, _≤_}
 use lib.Dec.{ltb}
 use lib.ListN.{length, getD, take, drop}
+use Rattle.frame.specs.declared.Figures.{Figures}
 use Rattle.label.specs.declared.Session.{Session}
 
 -- how many
 abbrev pub recordWords : ℕ
 recordWords = 89
 
+-- the words of the figures: in a record, and in an answer
+abbrev pub figureWords : Figures → List ℕ
+figureWords f = f .runs ∷ f .joins ∷ []
+
 -- the words of a record
 unfoldable pub wordsOf : Session → List ℕ
-wordsOf s = (s .rank ∷ []) ++ (s .shape ++ (s .structure ++ (s .fed ∷ s .runs ∷ s .joins ∷ [])))
+wordsOf s = (s .rank ∷ []) ++ (s .shape ++ (s .structure ++ (s .fed ∷ figureWords (s .figures))))
 
 -- the structure's, of a record's words
 abbrev pub structureWords : List ℕ → List ℕ
@@ -28,8 +33,7 @@ recordOf r =
       shape = getD r 1 0 ∷ getD r 2 0 ∷ getD r 3 0 ∷ getD r 4 0 ∷ [];
       structure = structureWords r;
       fed = getD r 86 0;
-      runs = getD r 87 0;
-      joins = getD r 88 0;
+      figures = record { runs = getD r 87 0; joins = getD r 88 0 };
     }
 
 -- is each word a byte?

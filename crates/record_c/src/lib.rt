@@ -4,15 +4,15 @@ ghost use mathlib.Core.Path.{_≡_};
 ghost use mathlib.Core.List.{[], _∷_};
 ghost use Rattle.frame.specs.Overlay.{overlay, Adds};
 ghost use Rattle.label.specs.Cases.{feedAnswer, openNumber, readAnswer};
-ghost use Rattle.record_c.specs.Records.{wordsOf, recordOf, bytes, StructureReady, RecordReady};
+ghost use Rattle.record_c.specs.Records.{figureWords, wordsOf, recordOf, bytes, StructureReady, RecordReady};
 ghost use Rattle.record_c.specs.Early.{recordEarly};
 ghost use Rattle.record_c.specs.Ends.{recordAfter, FeedEnd, ReadEnd};
 
-// The words of a record: rank, shape, structure, lines fed, runs, joins. A byte of the structure has a word of its own.
+// The words of a record: rank, shape, structure, lines fed, and the figures. A byte of the structure has a word of its own.
 pub const RECORD_WORDS: usize = 89;
 
-// The least words of an answer.
-pub const ANSWER_WORDS: usize = 4;
+// The least words of an answer. It has room to spare: what a call does not say is not written.
+pub const ANSWER_WORDS: usize = 8;
 
 // Returned where the record or the answer is too short.
 pub const SHORT: u32 = 100;
@@ -65,8 +65,10 @@ pub fn record_of(rec: &[u64]) -> label::Session
         ],
         structure,
         fed: rec[86] as usize,
-        runs: rec[87] as usize,
-        joins: rec[88] as usize,
+        figures: frame::Figures {
+            runs: rec[87] as usize,
+            joins: rec[88] as usize,
+        },
     }
 }
 
@@ -99,19 +101,22 @@ fn put(buf: &mut [u64], at: usize, x: u64) -> usize
     at
 }
 
-fn put_three(buf: &mut [u64], at: usize, a: usize, b: usize, c: usize) -> usize
-    ensures { λ r. ⌜ Adds (a ∷ b ∷ c ∷ []) (now (buf .entry)) at (now (buf .exit)) r ⌝ }
-{
-    let second = put(buf, at, a as u64);
-    let third = put(buf, second, b as u64);
-    put(buf, third, c as u64)
-}
-
 fn put_shape(buf: &mut [u64], at: usize, shape: [usize; 4]) -> usize
     ensures { λ r. ⌜ Adds shape (now (buf .entry)) at (now (buf .exit)) r ⌝ }
 {
-    let next = put_three(buf, at, shape[0], shape[1], shape[2]);
-    put(buf, next, shape[3] as u64)
+    let second = put(buf, at, shape[0] as u64);
+    let third = put(buf, second, shape[1] as u64);
+    let fourth = put(buf, third, shape[2] as u64);
+    put(buf, fourth, shape[3] as u64)
+}
+
+// Lines fed or n, and behind it the figures: the last words of a record, and the first of an answer.
+fn put_figures(buf: &mut [u64], at: usize, count: usize, figures: frame::Figures) -> usize
+    ensures { λ r. ⌜ Adds (count ∷ figureWords figures) (now (buf .entry)) at (now (buf .exit)) r ⌝ }
+{
+    let second = put(buf, at, count as u64);
+    let third = put(buf, second, figures.runs as u64);
+    put(buf, third, figures.joins as u64)
 }
 
 fn put_bytes(buf: &mut [u64], at: usize, list: &[u8]) -> usize
@@ -138,7 +143,7 @@ fn write_record(s: label::Session, rec: &mut [u64])
     let next = put(rec, 0, s.rank as u64);
     let third = put_shape(rec, next, s.shape);
     let last = put_bytes(rec, third, &s.structure);
-    put_three(rec, last, s.fed, s.runs, s.joins);
+    put_figures(rec, last, s.fed, s.figures);
 }
 
 // ---- the end of a call
@@ -165,9 +170,9 @@ pub fn end_feed(f: label::Fed, rec: &mut [u64], answer: &mut [u64]) -> u32
 {
     let said = f.answer;
     match said {
-        label::FeedAnswer::Accepted { lines, runs, joins } => {
+        label::FeedAnswer::Accepted { lines, figures } => {
             write_record(f.session, rec);
-            put_three(answer, 0, lines, runs, joins);
+            put_figures(answer, 0, lines, figures);
             0
         }
         label::FeedAnswer::Refused(cause) => cause.number(),
@@ -179,8 +184,8 @@ pub fn end_read(said: label::ReadAnswer, answer: &mut [u64]) -> u32
     ensures { λ r. ⌜ ReadEnd (readAnswer said) (now (answer .entry)) r (now (answer .exit)) ⌝ }
 {
     match said {
-        label::ReadAnswer::Accepted { n, runs, joins } => {
-            put_three(answer, 0, n, runs, joins);
+        label::ReadAnswer::Accepted { n, figures } => {
+            put_figures(answer, 0, n, figures);
             0
         }
         label::ReadAnswer::Refused(cause) => cause.number(),

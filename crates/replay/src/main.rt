@@ -50,7 +50,7 @@ const LINE: usize = 21;
 fn said(answer: Answer) -> usize {
     let number = answer.number;
     match number {
-        0 => answer.a,
+        0 => answer.count,
         10 => fields::NONE,
         _ => fields::BAD,
     }

@@ -1,12 +1,14 @@
 // Answers as numbers, outputs as words, and the comparison of records.
+use flood::Count;
+use flood::less;
+use frame::Figures;
 use label::Session;
 
-// Document 01's number, or 0, and the figures answered: 0 where refused.
+// Document 01's number, or 0; lines fed or n; and the figures. Zeros where refused.
 pub struct Answer {
     pub number: usize,
-    pub a: usize,
-    pub b: usize,
-    pub c: usize,
+    pub count: usize,
+    pub figures: Figures,
 }
 
 // What a call of a session gives.
@@ -19,9 +21,20 @@ pub struct Done {
 pub fn refused(number: usize) -> Answer {
     Answer {
         number,
-        a: 0,
-        b: 0,
-        c: 0,
+        count: 0,
+        figures: Figures::zero(),
+    }
+}
+
+// Lines fed or n, with the figures that the flood fill gives.
+pub fn accepted(count: usize, counted: Count) -> Answer {
+    Answer {
+        number: 0,
+        count,
+        figures: Figures {
+            runs: counted.runs,
+            joins: less(counted.runs, counted.n),
+        },
     }
 }
 
@@ -34,11 +47,10 @@ pub fn opening(given: label::OpenAnswer) -> usize {
 
 pub fn feeding(given: label::FeedAnswer) -> Answer {
     match given {
-        label::FeedAnswer::Accepted { lines, runs, joins } => Answer {
+        label::FeedAnswer::Accepted { lines, figures } => Answer {
             number: 0,
-            a: lines,
-            b: runs,
-            c: joins,
+            count: lines,
+            figures,
         },
         label::FeedAnswer::Refused(cause) => refused(cause.number() as usize),
     }
@@ -46,18 +58,22 @@ pub fn feeding(given: label::FeedAnswer) -> Answer {
 
 pub fn reading(given: label::ReadAnswer) -> Answer {
     match given {
-        label::ReadAnswer::Accepted { n, runs, joins } => Answer {
+        label::ReadAnswer::Accepted { n, figures } => Answer {
             number: 0,
-            a: n,
-            b: runs,
-            c: joins,
+            count: n,
+            figures,
         },
         label::ReadAnswer::Refused(cause) => refused(cause.number() as usize),
     }
 }
 
+fn same_figures(x: Figures, y: Figures) -> bool {
+    (x.runs == y.runs) & (x.joins == y.joins)
+}
+
 pub fn same(x: Answer, y: Answer) -> bool {
-    (x.number == y.number) & (x.a == y.a) & (x.b == y.b) & (x.c == y.c)
+    let figures = same_figures(x.figures, y.figures);
+    figures & (x.number == y.number) & (x.count == y.count)
 }
 
 // ---- outputs
@@ -101,14 +117,15 @@ fn bytes_alike(a: &[u8; 81], b: &[u8; 81]) -> bool {
     alike
 }
 
-// The same shape, with these figures.
-pub fn record_is(x: Session, y: Session, fed: usize, runs: usize, joins: usize) -> bool {
+// The same shape, with these lines fed and figures.
+pub fn record_is(x: Session, y: Session, fed: usize, figures: Figures) -> bool {
     let a = (x.shape[0] == y.shape[0]) & (x.shape[1] == y.shape[1]);
     let b = (x.shape[2] == y.shape[2]) & (x.shape[3] == y.shape[3]);
-    let c = (x.fed == fed) & (x.runs == runs) & (x.joins == joins);
+    let c = (x.fed == fed) & same_figures(x.figures, figures);
     a & b & c & (x.rank == y.rank) & bytes_alike(&x.structure, &y.structure)
 }
 
 pub fn same_record(x: Session, y: Session) -> bool {
-    record_is(x, y, y.fed, y.runs, y.joins)
+    let figures = y.figures;
+    record_is(x, y, y.fed, figures)
 }

@@ -1,4 +1,4 @@
--- All lines of a frame, fed block by block, are one feed: of cells of any kind.
+-- All lines of a frame that is opened, fed block by block, are one feed: of cells of any kind, where f says which are nonzero.
 -- Assumes nothing.
 use mathlib.Core.Path.{_≡_, refl, sym, ap, ap₂, _∙_, subst}
 use mathlib.Core.Bool.{Bool, true, false, _||_, true≢false}
@@ -9,17 +9,19 @@ use native.Mathlib.Omega.{arith}
 use borrow.Rule.Slice.PartMut.{midOf}
 use borrow.Author.Tests.{eqb-false, leb-true, leb-false}
 use lib.Dec.{eqb, leb}
-use lib.ListN.{length, length-set, getD, take, drop, replicate, length-append, length-map, length-take, length-drop, List·getD-append}
+use lib.ListN.{length, getD, take, drop, replicate, length-append, length-map, length-take, length-drop, List·getD-append}
 use lib.Seq.{take-add, take-all}
+use Rattle.frame.specs.declared.Figures.{Figures}
 use Rattle.frame.specs.Shape.{size, width, lines, leading}
 use Rattle.frame.specs.Structure.{leftOn}
 use Rattle.frame.specs.Lists.{entries, padded}
 use Rattle.frame.specs.Causes.{hasZero}
+use Rattle.frame.specs.Plain.{zeroFigures}
 use Rattle.frame.specs.Words.{lineStart, storedRun}
 use Rattle.frame.proofs.EntryLaws.{entries-padded, entries-all}
 use Rattle.frame.proofs.ShapeLaws.{size-lines, length-leading}
 use Rattle.frame.proofs.TouchLaws.{touches-bytes}
-use Rattle.frame.proofs.CauseLaws.{rank-right, Allowed, open-accepted}
+use Rattle.frame.proofs.CauseLaws.{rank-right, Allowed}
 use Rattle.geo.specs.declared.Geo.{Geo}
 use Rattle.geo.specs.Geometry.{GeoOf}
 use Rattle.geo.proofs.GeoLaws.{within-limits}
@@ -27,15 +29,14 @@ use Rattle.block.specs.Blocks.{RoomFor, Extracts, BlockReady, touchesFrom, Bloc
 use Rattle.label.specs.declared.Session.{Session}
 use Rattle.label.specs.Record.{shapeOf, linesOf, withFigures}
 use Rattle.label.specs.Sound.{Sound}
-use Rattle.label.specs.Opening.{openRecord, openWords}
+use Rattle.label.specs.Opening.{openRecord}
 use Rattle.label.specs.Feeding.{feedRecord, FeedWords}
 use Rattle.label.specs.Steps.{FeedAccepted, FeedExtracted, FeedDone}
 use Rattle.label.specs.WholeFrame.{blockLines}
-use Rattle.label.proofs.OpenLaws.{opened-shape, opened-inv}
+use Rattle.label.proofs.OpenLaws.{opened-shape}
 use Rattle.label.proofs.FeedNoneLaws.{words-none, record-none}
 use Rattle.label.proofs.BlockLaws.{OneFeed, between-sound, one-more}
 use Rattle.label.proofs.FeedBlockLaws.{feed-room, feed-extracted, feed-ready, feed-joins-fit, feed-done}
-use Rattle.whole.specs.FeedAll.{FeedAllReady, FeedAllDone}
 
 -- ---- blocks
 
@@ -65,7 +66,10 @@ block-some L B pos = go (leb 1 (blockLines L B)) refl
 
     go : (t : Bool) → leb 1 (blockLines L B) ≡ t → 0 < (L + c - 1) / c
     go true e = unfold blockLines in leb-true 1 ((L + c - 1) / c) e
-    go false e = unfold blockLines in let l : L + c - 1 < 1 * c = div-lt-iff-lt-mul some .0 (leb-false 1 ((L + c - 1) / c) e) in absurd (omega arith)
+    go false e =
+        unfold blockLines in
+        let l : L + c - 1 < 1 * c = div-lt-iff-lt-mul some .0 (leb-false 1 ((L + c - 1) / c) e) in
+        absurd (omega arith)
 
 -- ---- the structure as a record holds it
 
@@ -75,51 +79,38 @@ unfolding padded
 padded-at n l i h = List·getD-append l (replicate (n - length l) 0) 0 i h
 
 -- so the geometry of a lent structure is that of the opening's record
-pub record-geo : (shape : List ℕ) (g : Geo) (structure ws : List ℕ) → Allowed shape structure (length ws) → GeoOf (length shape) (padded 4 shape) structure g → GeoOf (length shape) (padded 4 shape) (padded 81 structure) g
-record-geo shape g structure ws A K = record {
+pub record-geo : (shape structure : List ℕ) (g : Geo) (memory : ℕ) → Allowed shape structure memory
+    → GeoOf (length shape) (padded 4 shape) structure g → GeoOf (length shape) (padded 4 shape) (padded 81 structure) g
+record-geo shape structure g memory A K = record {
   rank-is = K .rank-is;
   leading-is = K .leading-is;
   three = K .three;
   lines-is = K .lines-is;
   width-is = K .width-is;
-  left-is = K .left-is ∙ ap (leftOn (entries (length shape) (padded 4 shape))) bytes;
+  left-is = K .left-is ∙ ap (leftOn (entries (length shape) (padded 4 shape))) (lent ∙ sym held);
 }
   where
-    bytes : entries (3 ^ length shape) structure ≡ entries (3 ^ length shape) (padded 81 structure)
-    bytes = entries-all (3 ^ length shape) structure (A .bytes) ∙ sym (ap (λ (n : ℕ). entries n (padded 81 structure)) (sym (A .bytes)) ∙ entries-padded 81 structure)
+    lent : entries (3 ^ length shape) structure ≡ structure
+    lent = entries-all (3 ^ length shape) structure (A .bytes)
 
--- the opening's words, of which some lines are fed: as one feed of them
-pub record FedSoFar {A : Type 0} (f : A → Bool) (cells : List A) (shape structure ws : List ℕ) (w L : ℕ) (now : List ℕ) (fed runs joins : ℕ) : Type 0 where
-  pub within : fed ≤ L
-  pub one : OneFeed (openRecord shape structure) ws fed (map f (take (fed * w) cells)) (withFigures (openRecord shape structure) fed runs joins) now
+    held : entries (3 ^ length shape) (padded 81 structure) ≡ structure
+    held = ap (λ (n : ℕ). entries n (padded 81 structure)) (sym (A .bytes)) ∙ entries-padded 81 structure
 
--- of the words only their count matters, which an opening keeps
-module _ (shape : List ℕ) (g : Geo) (structure ws : List ℕ) (cells : List Bool) where
-  pub ready-opened : FeedAllReady shape g structure ws cells → FeedAllReady shape g structure (openWords ws) cells
-  ready-opened P = record { opens = rw (length-set ws 0 0) (P .opens); whole = P .whole; geometry = P .geometry }
+-- ---- a frame that is opened
 
-  pub opened-ready : FeedAllReady shape g structure (openWords ws) cells → FeedAllReady shape g structure ws cells
-  opened-ready P = record { opens = rw (length-set ws 0 0) at (P .opens); whole = P .whole; geometry = P .geometry }
+-- its arguments, its geometry, and the words of its opening
+pub record Opened {A : Type 0} (shape structure : List ℕ) (cells : List A) (g : Geo) (vs : List ℕ) : Type 0 where
+  pub allowed : Allowed shape structure (length vs)
+  pub is-sound : Sound (openRecord shape structure) vs
+  pub geometry : GeoOf (length shape) (padded 4 shape) structure g
+  pub whole : length cells ≡ size shape
 
-module _ {A : Type 0} (f : A → Bool) (cells : List A) (shape : List ℕ) (g : Geo) (structure ws : List ℕ) (P : FeedAllReady shape g structure ws (map f cells)) where
+module _ {A : Type 0} {shape structure : List ℕ} {cells : List A} {g : Geo} {vs : List ℕ} (O : Opened shape structure cells g vs) where
   abbrev K : GeoOf (length shape) (padded 4 shape) structure g
-  K = P .geometry
+  K = O .geometry
 
-  A₀ : Allowed shape structure (length ws)
-  A₀ = open-accepted shape structure (length ws) (P .opens)
-
-  -- the record and the words of the opening
-  abbrev s₀ : Session
-  s₀ = openRecord shape structure
-
-  abbrev vs : List ℕ
-  vs = openWords ws
-
-  S₀ : Sound s₀ vs
-  S₀ = opened-inv shape structure ws A₀ .is-sound
-
-  shape₀ : shapeOf s₀ ≡ shape
-  shape₀ = opened-shape shape structure ws A₀
+  shape₀ : shapeOf (openRecord shape structure) ≡ shape
+  shape₀ = opened-shape shape structure vs (O .allowed)
 
   lines-are : g .lines ≡ lines shape
   lines-are = K .lines-is ∙ ap lines (entries-padded 4 shape)
@@ -127,22 +118,33 @@ module _ {A : Type 0} (f : A → Bool) (cells : List A) (shape : List ℕ) (g : 
   width-is : g .width ≡ width shape
   width-is = K .width-is ∙ ap width (entries-padded 4 shape)
 
-  lines-some : 0 < g .lines
-  lines-some = omega (arith, lines-are, some-lines (leading shape) (A₀ .dimensions))
+  cells-are : length cells ≡ g .lines * g .width
+  cells-are = O .whole ∙ size-lines shape ∙ sym (ap₂ _*_ lines-are width-is)
 
-  lines-few : g .lines < 4294967293
-  lines-few = omega (arith, lines-are, within-limits shape (A₀ .limits) .1)
+  lines₀ : g .lines ≡ linesOf (openRecord shape structure)
+  lines₀ = lines-are ∙ ap lines (sym shape₀)
+
+  width₀ : g .width ≡ width (shapeOf (openRecord shape structure))
+  width₀ = width-is ∙ ap width (sym shape₀)
 
   pub all-lines : (0 < g .lines) × (g .lines < 4294967293)
-  all-lines = (lines-some, lines-few)
+  all-lines = (
+    omega (arith, lines-are, some-lines (leading shape) (O .allowed .dimensions)),
+    omega (arith, lines-are, within-limits shape (O .allowed .limits) .1),
+  )
 
   -- the geometry is the record's
-  geo₀ : GeoOf (s₀ .rank) (s₀ .shape) (s₀ .structure) g
-  geo₀ = record-geo shape g structure ws A₀ K
+  geo₀ : GeoOf (length shape) (padded 4 shape) (padded 81 structure) g
+  geo₀ = record-geo shape structure g (length vs) (O .allowed) K
+
+  long₀ : 3 ^ length shape ≤ length (padded 81 structure)
+  unfolding padded
+  long₀ = omega (arith, O .allowed .bytes, length-append structure (replicate (81 - length structure) 0))
 
   -- and so are the touches
-  united₀ : (ws₁ ws₂ : List ℕ) (fed k t : ℕ) → BlockUnited (g .leads) (g .dims) (g .lines) structure ws₁ ws₂ fed k t → BlockUnited (g .leads) (g .dims) (g .lines) (padded 81 structure) ws₁ ws₂ fed k t
-  united₀ ws₁ ws₂ fed k t U = record {
+  united₀ : {ws₁ ws₂ : List ℕ} {fed k t : ℕ} → BlockUnited (g .leads) (g .dims) (g .lines) structure ws₁ ws₂ fed k t
+      → BlockUnited (g .leads) (g .dims) (g .lines) (padded 81 structure) ws₁ ws₂ fed k t
+  united₀ {ws₁ = ws₁} {fed = fed} {k = k} U = record {
     long = U .long;
     others = U .others;
     parents = U .parents;
@@ -152,124 +154,151 @@ module _ {A : Type 0} (f : A → Bool) (cells : List A) (shape : List ℕ) (g : 
   }
     where
       rank-leading : length shape ≡ suc (length (drop (3 - g .leads) (g .dims)))
-      rank-leading = length-leading shape (rank-right shape (A₀ .ranked) .0) ∙ ap (λ (ds : List ℕ). suc (length ds)) (sym (K .leading-is ∙ ap leading (entries-padded 4 shape)))
+      rank-leading =
+          length-leading shape (rank-right shape (O .allowed .ranked) .0)
+          ∙ ap (λ (ds : List ℕ). suc (length ds)) (sym (K .leading-is ∙ ap leading (entries-padded 4 shape)))
 
-      same : touchesFrom (g .leads) (g .dims) (g .lines) structure ws₁ fed k ≡ touchesFrom (g .leads) (g .dims) (g .lines) (padded 81 structure) ws₁ fed k
-      same = touches-bytes (drop (3 - g .leads) (g .dims)) structure (padded 81 structure) (lineStart ws₁) (storedRun (g .lines) ws₁) (λ c h. sym (padded-at 81 structure c (rw (A₀ .bytes, rank-leading) h))) fed k
+      same : touchesFrom (g .leads) (g .dims) (g .lines) structure ws₁ fed k
+          ≡ touchesFrom (g .leads) (g .dims) (g .lines) (padded 81 structure) ws₁ fed k
+      same =
+          touches-bytes (drop (3 - g .leads) (g .dims)) structure (padded 81 structure) (lineStart ws₁) (storedRun (g .lines) ws₁)
+          (λ c h. sym (padded-at 81 structure c (rw (O .allowed .bytes, rank-leading) h))) fed k
 
+-- ---- some lines are fed
+
+-- as one feed of them
+pub record FedSoFar {A : Type 0} (f : A → Bool) (shape structure : List ℕ) (cells : List A) (g : Geo) (vs now : List ℕ) (fed : ℕ)
+    (figures : Figures) : Type 0 where
+  pub opened : Opened shape structure cells g vs
+  pub within : fed ≤ g .lines
+  pub one : OneFeed (openRecord shape structure) vs fed (map f (take (fed * g .width) cells))
+      (withFigures (openRecord shape structure) fed figures) now
+
+-- no line yet
+pub all-begin : {A : Type 0} (f : A → Bool) {shape structure : List ℕ} {cells : List A} {g : Geo} {vs : List ℕ}
+    → Opened shape structure cells g vs → {figures : Figures} → figures ≡ zeroFigures → FedSoFar f shape structure cells g vs vs 0 figures
+all-begin f {shape = shape} {structure = structure} {g = g} {vs = vs} O is =
+    rw is (record { opened = O; within = omega arith; one = rw (zero-mul (g .width)) no-lines })
+  where
+    s : Session
+    s = openRecord shape structure
+
+    G : FeedAccepted s vs 0 []
+    G = record { is-sound = O .is-sound; few = omega arith; whole = sym (zero-mul (width (shapeOf s))) }
+
+    no-lines : OneFeed s vs 0 [] s vs
+    no-lines = record { whole = G .whole; session = sym (record-none s vs [] G); words = words-none s vs [] G }
+
+module _ {A : Type 0} {f : A → Bool} {shape structure : List ℕ} {cells : List A} {g : Geo} {vs now : List ℕ} {fed : ℕ} {figures : Figures}
+    (I : FedSoFar f shape structure cells g vs now fed figures) where
   abbrev w : ℕ
   w = g .width
 
   abbrev L : ℕ
   L = g .lines
 
-  cells-are : length cells ≡ L * w
-  cells-are = sym (length-map cells f) ∙ P .whole ∙ size-lines shape ∙ sym (ap₂ _*_ lines-are width-is)
+  -- the record of the opening, and with the figures so far
+  abbrev s₀ : Session
+  s₀ = openRecord shape structure
 
-  lines₀ : L ≡ linesOf s₀
-  lines₀ = lines-are ∙ ap lines (sym shape₀)
+  abbrev s : Session
+  s = withFigures s₀ fed figures
 
-  width₀ : w ≡ width (shapeOf s₀)
-  width₀ = width-is ∙ ap width (sym shape₀)
+  few₀ : fed ≤ linesOf s₀ - s₀ .fed
+  few₀ = omega (arith, I .within, lines₀ (I .opened))
 
-  -- no line yet
-  pub all-begin : FedSoFar f cells shape structure vs w L vs 0 0 0
-  all-begin = record { within = omega arith; one = rw (zero-mul w) no-lines }
+  S : Sound s now
+  S = between-sound s₀ vs (I .opened .is-sound) fed (map f (take (fed * w) cells)) s now few₀ (I .one)
+
+  -- all lines are fed
+  pub all-end : L ≤ fed → FeedDone s₀ vs (lines shape) (map f cells) (withFigures s₀ L figures) now
+  all-end h = record {
+    session = subst (λ (n : ℕ). withFigures s₀ L figures ≡ feedRecord s₀ vs n (map f cells)) (lines-are (I .opened)) (all .session);
+    words = subst (λ (n : ℕ). FeedWords s₀ vs n (map f cells) now) (lines-are (I .opened)) (all .words);
+  }
     where
-      G : FeedAccepted s₀ vs 0 []
-      G = record { is-sound = S₀; few = omega arith; whole = sym (zero-mul (width (shapeOf s₀))) }
+      last : fed ≡ L
+      last = omega (arith, h, I .within)
 
-      no-lines : OneFeed s₀ vs 0 [] s₀ vs
-      no-lines = record { whole = G .whole; session = sym (record-none s₀ vs [] G); words = words-none s₀ vs [] G }
+      all : OneFeed s₀ vs L (map f cells) (withFigures s₀ L figures) now
+      all =
+          let enough : length cells ≤ L * w = omega (arith, cells-are (I .opened)) in
+          subst (λ (cs : List A). OneFeed s₀ vs L (map f cs) (withFigures s₀ L figures) now) (take-all (L * w) cells enough)
+          (subst (λ (n : ℕ). OneFeed s₀ vs n (map f (take (n * w) cells)) (withFigures s₀ n figures) now) last (I .one))
 
-  -- some lines are fed, and then k more
-  module _ (now : List ℕ) (fed runs joins : ℕ) (I : FedSoFar f cells shape structure vs w L now fed runs joins) where
-    abbrev s : Session
-    s = withFigures s₀ fed runs joins
+  -- and then k more
+  module _ (k most : ℕ) (least : k ≡ min most (L - fed)) where
+    below : fed + k ≤ L
+    below = omega (arith, least, I .within)
 
-    few₀ : fed ≤ linesOf s₀ - s₀ .fed
-    few₀ = omega (arith, I .within, lines₀)
+    -- a block has lines, so that fewer are left
+    pub all-less : (B : ℕ) → most ≡ blockLines L B → fed < L → L - (fed + k) < L - fed
+    all-less B e h = omega (arith, least, e, block-some L B (all-lines (I .opened) .0))
 
-    S : Sound s now
-    S = between-sound s₀ vs S₀ fed (map f (take (fed * w) cells)) s now few₀ (I .one)
+    -- their cells, as they are lent
+    abbrev more : List Bool
+    more = map f (midOf (fed * w) (fed * w + k * w - fed * w) cells)
 
-    -- all lines are fed
-    pub all-end : L ≤ fed → FeedAllDone shape g structure ws (map f cells) (record { runs = runs; joins = joins }) now
-    all-end h = record {
-      session = subst (λ (n : ℕ). withFigures s₀ L runs joins ≡ feedRecord s₀ vs n (map f cells)) lines-are (all .session);
-      words = subst (λ (n : ℕ). FeedWords s₀ vs n (map f cells) now) lines-are (all .words);
+    pub all-cells : fed * w + k * w ≤ length cells
+    all-cells = omega (arith, cells-are (I .opened), add-mul fed k w, mul-le-mul-right {m = fed + k} {n = L} w below)
+
+    pub all-fits : fed + k < 4294967293
+    all-fits = omega (arith, below, all-lines (I .opened) .1)
+
+    length-more : length more ≡ k * w
+    length-more =
+        length-map (midOf (fed * w) (fed * w + k * w - fed * w) cells) f
+        ∙ simp (length-take, length-drop) (omega (arith, all-cells))
+
+    G₁ : FeedAccepted s now k more
+    unfolding shapeOf
+    G₁ = record {
+      is-sound = S;
+      few = omega (arith, below, lines₀ (I .opened));
+      whole = length-more ∙ ap (λ (n : ℕ). k * n) (width₀ (I .opened));
     }
-      where
-        last : fed ≡ L
-        last = omega (arith, h, I .within)
 
-        all : OneFeed s₀ vs L (map f cells) (withFigures s₀ L runs joins) now
-        all =
-            subst (λ (cs : List A). OneFeed s₀ vs L (map f cs) (withFigures s₀ L runs joins) now) (take-all (L * w) cells (omega (arith, cells-are)))
-            (subst (λ (n : ℕ). OneFeed s₀ vs n (map f (take (n * w) cells)) (withFigures s₀ n runs joins) now) last (I .one))
+    pub all-room : RoomFor g fed (figures .runs) k more now
+    all-room = feed-room s now k more G₁ g (geo₀ (I .opened))
 
-    module _ (k most : ℕ) (least : k ≡ min most (L - fed)) where
-      below : fed + k ≤ L
-      below = omega (arith, least, I .within)
+    module _ {ws₁ : List ℕ} {n : ℕ} (B : Extracts g fed (figures .runs) k more now ws₁ n) where
+      X : FeedExtracted s now k more g ws₁ n
+      X = feed-extracted s now k more G₁ g (geo₀ (I .opened)) ws₁ n B
 
-      pub all-fits : fed + k < 4294967293
-      all-fits = omega (arith, below, lines-few)
-
-      -- a block has lines, so that fewer are left
-      pub all-less : (B : ℕ) → most ≡ blockLines L B → fed < L → L - (fed + k) < L - fed
-      all-less B e h = omega (arith, least, e, block-some L B lines-some)
-
-      -- their cells, as they are lent
-      abbrev more : List Bool
-      more = map f (midOf (fed * w) (fed * w + k * w - fed * w) cells)
-
-      pub all-cells : fed * w + k * w ≤ length cells
-      all-cells = omega (arith, cells-are, add-mul fed k w, mul-le-mul-right {m = fed + k} {n = L} w below)
-
-      length-more : length more ≡ k * w
-      length-more = length-map (midOf (fed * w) (fed * w + k * w - fed * w) cells) f ∙ simp (length-take, length-drop) (omega (arith, all-cells))
-
-      G : FeedAccepted s now k more
-      G = record {
-        is-sound = S;
-        few = unfold shapeOf in omega (arith, below, lines₀);
-        whole = unfold shapeOf in length-more ∙ ap (λ (n : ℕ). k * n) (unfold shapeOf in width₀);
-      }
-
-      pub all-room : RoomFor g fed runs k more now
-      all-room = feed-room s now k more G g geo₀
-
-      module _ (ws₁ : List ℕ) (n : ℕ) (B : Extracts g fed runs k more now ws₁ n) where
-        X : FeedExtracted s now k more g ws₁ n
-        X = feed-extracted s now k more G g geo₀ ws₁ n B
-
-        long₀ : 3 ^ length shape ≤ length (padded 81 structure)
-        unfolding padded
-        long₀ = omega (arith, A₀ .bytes, length-append structure (replicate (81 - length structure) 0))
-
-        pub all-ready : BlockReady (g .leads) (g .dims) (g .lines) structure ws₁ fed k
-        all-ready =
-            let R = feed-ready s now k more g ws₁ n X long₀ in
-            record { leading = R .leading; bytes = rw (← K .rank-is) (omega (arith, A₀ .bytes)); within = R .within; room = R .room; sorted = R .sorted; parents = R .parents }
-
-        module _ (ws₂ : List ℕ) (t : ℕ) (U : BlockUnited (g .leads) (g .dims) (g .lines) structure ws₁ ws₂ fed k t) where
-          pub all-joins : joins + t < 4294967293
-          all-joins = feed-joins-fit s now k more g ws₁ n X long₀ ws₂ t (united₀ ws₁ ws₂ fed k t U)
-
-          D : FeedDone s now k more (withFigures s₀ (fed + k) n (joins + t)) ws₂
-          D = feed-done s now k more g ws₁ n X long₀ ws₂ t (united₀ ws₁ ws₂ fed k t U)
-
-          parts : map f (take (fed * w) cells) ++ more ≡ map f (take ((fed + k) * w) cells)
-          parts =
-              let e : fed * w + k * w - fed * w ≡ k * w = omega arith in
-              sym (map-append f (take (fed * w) cells) (midOf (fed * w) (fed * w + k * w - fed * w) cells))
-              ∙ ap (λ (m : ℕ). map f (take (fed * w) cells ++ take m (drop (fed * w) cells))) e
-              ∙ ap (map f) (sym (take-add (fed * w) (k * w) cells) ∙ ap (λ (m : ℕ). take m cells) (sym (add-mul fed k w)))
-
-          pub all-then : FedSoFar f cells shape structure vs w L ws₂ (fed + k) n (joins + t)
-          all-then = record {
-            within = below;
-            one = subst (λ (cs : List Bool). OneFeed s₀ vs (fed + k) cs (withFigures s₀ (fed + k) n (joins + t)) ws₂) parts
-                (one-more s₀ vs S₀ fed (map f (take (fed * w) cells)) s now few₀ (I .one) k more (withFigures s₀ (fed + k) n (joins + t)) ws₂ (omega (arith, below, lines₀))
-                (record { whole = G .whole; session = D .session; words = D .words }));
+      pub all-ready : BlockReady (g .leads) (g .dims) L structure ws₁ fed k
+      all-ready =
+          let R = feed-ready s now k more g ws₁ n X (long₀ (I .opened)) in
+          record {
+            leading = R .leading;
+            bytes = rw (← I .opened .geometry .rank-is) (omega (arith, I .opened .allowed .bytes));
+            within = R .within;
+            room = R .room;
+            sorted = R .sorted;
+            parents = R .parents;
           }
+
+      module _ {ws₂ : List ℕ} {t : ℕ} (U : BlockUnited (g .leads) (g .dims) L structure ws₁ ws₂ fed k t) where
+        pub all-joins : figures .joins + t < 4294967293
+        all-joins = feed-joins-fit s now k more g ws₁ n X (long₀ (I .opened)) ws₂ t (united₀ (I .opened) U)
+
+        abbrev s₂ : Session
+        s₂ = withFigures s₀ (fed + k) (record { runs = n; joins = figures .joins + t })
+
+        D : FeedDone s now k more s₂ ws₂
+        D = feed-done s now k more g ws₁ n X (long₀ (I .opened)) ws₂ t (united₀ (I .opened) U)
+
+        parts : map f (take (fed * w) cells) ++ more ≡ map f (take ((fed + k) * w) cells)
+        parts =
+            let e : fed * w + k * w - fed * w ≡ k * w = omega arith in
+            sym (map-append f (take (fed * w) cells) (midOf (fed * w) (fed * w + k * w - fed * w) cells))
+            ∙ ap (λ (m : ℕ). map f (take (fed * w) cells ++ take m (drop (fed * w) cells))) e
+            ∙ ap (map f) (sym (take-add (fed * w) (k * w) cells) ∙ ap (λ (m : ℕ). take m cells) (sym (add-mul fed k w)))
+
+        pub all-then : FedSoFar f shape structure cells g vs ws₂ (fed + k) (record { runs = n; joins = figures .joins + t })
+        all-then = record {
+          opened = I .opened;
+          within = below;
+          one = subst (λ (cs : List Bool). OneFeed s₀ vs (fed + k) cs s₂ ws₂) parts
+              (one-more s₀ vs (I .opened .is-sound) fed (map f (take (fed * w) cells)) s now few₀ (I .one) k more s₂ ws₂
+              (omega (arith, below, lines₀ (I .opened))) (record { whole = G₁ .whole; session = D .session; words = D .words }));
+        }

@@ -1,3 +1,4 @@
 pub mod FeedAllLaws
+pub mod FeedFrameLaws
 pub mod NumberingLaws
 pub mod WholeLaws

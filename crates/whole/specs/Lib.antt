@@ -1,1 +1,1 @@
-pub mod FeedAll
+pub mod FedFrames

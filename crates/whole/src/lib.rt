@@ -6,9 +6,10 @@
 // What it promises is `FramePromise`, in label's specs/WholeFrame.antt: by equation the answer, every word and every output place,
 // refusals too. The block count stands in no promise: it changes no answer.
 //
-// causes::frame_check finds causes 1 to 5, 8 and 9 before anything is written, word 0 included. feed_all_C then writes word 0 and feeds the
-// lines block by block, and number_N compares n with the kind's largest number (cause 10: the output stands) and writes names and
-// numbers. What has just been written is not checked for soundness again: it is proved sound.
+// A pair of kinds is two calls. feed_frame_C finds causes 1 to 5, 8 and 9 before anything is written, word 0 included; where there is none,
+// it writes word 0 and feeds the lines block by block. number_N passes a refusal on; else it compares n with the kind's largest number
+// (cause 10: the output stands) and writes names and numbers. What has just been written is not checked for soundness again: it is
+// proved sound.
 ghost use mathlib.Core.Path.{_≡_};
 ghost use mathlib.Core.List.{map};
 ghost use Prim.Native.Nat.{_<_, min, max};
@@ -16,12 +17,12 @@ ghost use lib.ListN.{length};
 ghost use Rattle.frame.specs.Kinds.{nz, nzℤ, nzF, u8, u16, u32};
 ghost use Rattle.label.specs.Cases.{readAnswer};
 ghost use Rattle.label.specs.WholeFrame.{blockLines, FramePromise};
-ghost use Rattle.whole.specs.FeedAll.{SomeReady, FeedsAll, SomeFed, Numbers};
+ghost use Rattle.whole.specs.FedFrames.{FeedsFrame, SomeFed, Numbers};
 
-// The figures of a frame whose lines are all fed.
+// A frame before its cells are numbered: what its check found, and where it passed the figures of all lines fed.
 struct FedFrame {
-    runs: usize,
-    joins: usize,
+    found: causes::Checked,
+    figures: frame::Figures,
 }
 
 // ---- blocks
@@ -55,168 +56,202 @@ fn lesser(a: usize, b: usize) -> usize
     b
 }
 
-// ---- feeding: the words are opened, and all lines fed, block by block
+// ---- for each kind of cell: causes are found, and where there is none the words are opened and all lines fed, block by block. `places` is
+// the count of output places
 
-fn feed_all_u8(
-    g: geo::Geo,
+fn feed_frame_u8(
+    shape: &[usize],
     structure: &[u8],
     words: &mut [u32],
     cells: &[u8],
+    places: usize,
     blocks: usize,
 ) -> FedFrame
-    requires { ⌜ SomeReady g (now structure) (now words) (map nz (now cells)) ⌝ }
-    ensures { λ f. ⌜ FeedsAll g (now (structure .entry)) (now (words .entry)) (map nz (now (cells .entry))) f (now (words .exit)) ⌝ }
+    ensures { λ f. ⌜ FeedsFrame (now (shape .entry)) (now (structure .entry)) (now (words .entry)) (map nz (now (cells .entry))) places
+        f (now (words .exit)) ⌝ }
 {
+    let found = causes::frame_check(shape, structure, words.len(), cells.len(), places);
+    let mut figures = frame::Figures::zero();
+    let check = found.check;
+    if check.failed() {
+        return FedFrame { found, figures };
+    }
+    let g = found.geo;
     let lines = g.lines;
     let w = g.width;
     let most = block_lines(lines, blocks);
     words[0] = 0;
     let mut fed: usize = 0;
-    let mut runs: usize = 0;
-    let mut joins: usize = 0;
     while fed < lines {
         let k = lesser(most, lines - fed);
         let a = fed * w;
         let e = a + k * w;
-        runs = block::extract_block_u8(&cells[a..e], g, words, fed, runs, k);
-        joins += block::union_block(words, g, structure, fed, k);
+        figures.runs = block::extract_block_u8(&cells[a..e], g, words, fed, figures.runs, k);
+        figures.joins += block::union_block(words, g, structure, fed, k);
         fed += k;
     }
-    FedFrame { runs, joins }
+    FedFrame { found, figures }
 }
 
-fn feed_all_u16(
-    g: geo::Geo,
+fn feed_frame_u16(
+    shape: &[usize],
     structure: &[u8],
     words: &mut [u32],
     cells: &[u16],
+    places: usize,
     blocks: usize,
 ) -> FedFrame
-    requires { ⌜ SomeReady g (now structure) (now words) (map nz (now cells)) ⌝ }
-    ensures { λ f. ⌜ FeedsAll g (now (structure .entry)) (now (words .entry)) (map nz (now (cells .entry))) f (now (words .exit)) ⌝ }
+    ensures { λ f. ⌜ FeedsFrame (now (shape .entry)) (now (structure .entry)) (now (words .entry)) (map nz (now (cells .entry))) places
+        f (now (words .exit)) ⌝ }
 {
+    let found = causes::frame_check(shape, structure, words.len(), cells.len(), places);
+    let mut figures = frame::Figures::zero();
+    let check = found.check;
+    if check.failed() {
+        return FedFrame { found, figures };
+    }
+    let g = found.geo;
     let lines = g.lines;
     let w = g.width;
     let most = block_lines(lines, blocks);
     words[0] = 0;
     let mut fed: usize = 0;
-    let mut runs: usize = 0;
-    let mut joins: usize = 0;
     while fed < lines {
         let k = lesser(most, lines - fed);
         let a = fed * w;
         let e = a + k * w;
-        runs = block::extract_block_u16(&cells[a..e], g, words, fed, runs, k);
-        joins += block::union_block(words, g, structure, fed, k);
+        figures.runs = block::extract_block_u16(&cells[a..e], g, words, fed, figures.runs, k);
+        figures.joins += block::union_block(words, g, structure, fed, k);
         fed += k;
     }
-    FedFrame { runs, joins }
+    FedFrame { found, figures }
 }
 
-fn feed_all_i16(
-    g: geo::Geo,
+fn feed_frame_i16(
+    shape: &[usize],
     structure: &[u8],
     words: &mut [u32],
     cells: &[i16],
+    places: usize,
     blocks: usize,
 ) -> FedFrame
-    requires { ⌜ SomeReady g (now structure) (now words) (map nzℤ (now cells)) ⌝ }
-    ensures { λ f. ⌜ FeedsAll g (now (structure .entry)) (now (words .entry)) (map nzℤ (now (cells .entry))) f (now (words .exit)) ⌝ }
+    ensures { λ f. ⌜ FeedsFrame (now (shape .entry)) (now (structure .entry)) (now (words .entry)) (map nzℤ (now (cells .entry))) places
+        f (now (words .exit)) ⌝ }
 {
+    let found = causes::frame_check(shape, structure, words.len(), cells.len(), places);
+    let mut figures = frame::Figures::zero();
+    let check = found.check;
+    if check.failed() {
+        return FedFrame { found, figures };
+    }
+    let g = found.geo;
     let lines = g.lines;
     let w = g.width;
     let most = block_lines(lines, blocks);
     words[0] = 0;
     let mut fed: usize = 0;
-    let mut runs: usize = 0;
-    let mut joins: usize = 0;
     while fed < lines {
         let k = lesser(most, lines - fed);
         let a = fed * w;
         let e = a + k * w;
-        runs = block::extract_block_i16(&cells[a..e], g, words, fed, runs, k);
-        joins += block::union_block(words, g, structure, fed, k);
+        figures.runs = block::extract_block_i16(&cells[a..e], g, words, fed, figures.runs, k);
+        figures.joins += block::union_block(words, g, structure, fed, k);
         fed += k;
     }
-    FedFrame { runs, joins }
+    FedFrame { found, figures }
 }
 
-fn feed_all_f32(
-    g: geo::Geo,
+fn feed_frame_f32(
+    shape: &[usize],
     structure: &[u8],
     words: &mut [u32],
     cells: &[f32],
+    places: usize,
     blocks: usize,
 ) -> FedFrame
-    requires { ⌜ SomeReady g (now structure) (now words) (map nzF (now cells)) ⌝ }
-    ensures { λ f. ⌜ FeedsAll g (now (structure .entry)) (now (words .entry)) (map nzF (now (cells .entry))) f (now (words .exit)) ⌝ }
+    ensures { λ f. ⌜ FeedsFrame (now (shape .entry)) (now (structure .entry)) (now (words .entry)) (map nzF (now (cells .entry))) places
+        f (now (words .exit)) ⌝ }
 {
+    let found = causes::frame_check(shape, structure, words.len(), cells.len(), places);
+    let mut figures = frame::Figures::zero();
+    let check = found.check;
+    if check.failed() {
+        return FedFrame { found, figures };
+    }
+    let g = found.geo;
     let lines = g.lines;
     let w = g.width;
     let most = block_lines(lines, blocks);
     words[0] = 0;
     let mut fed: usize = 0;
-    let mut runs: usize = 0;
-    let mut joins: usize = 0;
     while fed < lines {
         let k = lesser(most, lines - fed);
         let a = fed * w;
         let e = a + k * w;
-        runs = block::extract_block_f32(&cells[a..e], g, words, fed, runs, k);
-        joins += block::union_block(words, g, structure, fed, k);
+        figures.runs = block::extract_block_f32(&cells[a..e], g, words, fed, figures.runs, k);
+        figures.joins += block::union_block(words, g, structure, fed, k);
         fed += k;
     }
-    FedFrame { runs, joins }
+    FedFrame { found, figures }
 }
 
-// ---- numbering: n is compared, and names and numbers are written
+// ---- for each kind of number: a refusal is passed on, and else n is compared, and names and numbers are written
 
-fn number_u8(g: geo::Geo, frame: FedFrame, words: &mut [u32], out: &mut [u8]) -> label::ReadAnswer
-    requires { ⌜ SomeFed g frame (now words) (length (now out)) ⌝ }
-    ensures { λ r. ⌜ Numbers u8 g frame (now (words .entry)) (now (out .entry)) (readAnswer r) (now (words .exit)) (now (out .exit)) ⌝ }
+fn number_u8(frame: FedFrame, words: &mut [u32], out: &mut [u8]) -> label::ReadAnswer
+    requires { ⌜ SomeFed frame (now words) (length (now out)) ⌝ }
+    ensures { λ r. ⌜ Numbers u8 frame (now (words .entry)) (now (out .entry)) (readAnswer r) (now (words .exit)) (now (out .exit)) ⌝ }
 {
-    let n = frame.runs - frame.joins;
+    let found = frame.found;
+    let check = found.check;
+    if let causes::Check::Failed(cause) = check {
+        return label::ReadAnswer::Refused(cause);
+    }
+    let g = found.geo;
+    let figures = frame.figures;
+    let n = figures.runs - figures.joins;
     if n as u64 > write::LabelU8::MAXV {
         return label::ReadAnswer::Refused(causes::Cause::Kind);
     }
     write::write_block_u8(words, g, g.lines, out);
-    label::ReadAnswer::Accepted {
-        n,
-        runs: frame.runs,
-        joins: frame.joins,
-    }
+    label::ReadAnswer::Accepted { n, figures }
 }
 
-fn number_u16(g: geo::Geo, frame: FedFrame, words: &mut [u32], out: &mut [u16]) -> label::ReadAnswer
-    requires { ⌜ SomeFed g frame (now words) (length (now out)) ⌝ }
-    ensures { λ r. ⌜ Numbers u16 g frame (now (words .entry)) (now (out .entry)) (readAnswer r) (now (words .exit)) (now (out .exit)) ⌝ }
+fn number_u16(frame: FedFrame, words: &mut [u32], out: &mut [u16]) -> label::ReadAnswer
+    requires { ⌜ SomeFed frame (now words) (length (now out)) ⌝ }
+    ensures { λ r. ⌜ Numbers u16 frame (now (words .entry)) (now (out .entry)) (readAnswer r) (now (words .exit)) (now (out .exit)) ⌝ }
 {
-    let n = frame.runs - frame.joins;
+    let found = frame.found;
+    let check = found.check;
+    if let causes::Check::Failed(cause) = check {
+        return label::ReadAnswer::Refused(cause);
+    }
+    let g = found.geo;
+    let figures = frame.figures;
+    let n = figures.runs - figures.joins;
     if n as u64 > write::LabelU16::MAXV {
         return label::ReadAnswer::Refused(causes::Cause::Kind);
     }
     write::write_block_u16(words, g, g.lines, out);
-    label::ReadAnswer::Accepted {
-        n,
-        runs: frame.runs,
-        joins: frame.joins,
-    }
+    label::ReadAnswer::Accepted { n, figures }
 }
 
-fn number_u32(g: geo::Geo, frame: FedFrame, words: &mut [u32], out: &mut [u32]) -> label::ReadAnswer
-    requires { ⌜ SomeFed g frame (now words) (length (now out)) ⌝ }
-    ensures { λ r. ⌜ Numbers u32 g frame (now (words .entry)) (now (out .entry)) (readAnswer r) (now (words .exit)) (now (out .exit)) ⌝ }
+fn number_u32(frame: FedFrame, words: &mut [u32], out: &mut [u32]) -> label::ReadAnswer
+    requires { ⌜ SomeFed frame (now words) (length (now out)) ⌝ }
+    ensures { λ r. ⌜ Numbers u32 frame (now (words .entry)) (now (out .entry)) (readAnswer r) (now (words .exit)) (now (out .exit)) ⌝ }
 {
-    let n = frame.runs - frame.joins;
+    let found = frame.found;
+    let check = found.check;
+    if let causes::Check::Failed(cause) = check {
+        return label::ReadAnswer::Refused(cause);
+    }
+    let g = found.geo;
+    let figures = frame.figures;
+    let n = figures.runs - figures.joins;
     if n as u64 > write::LabelU32::MAXV {
         return label::ReadAnswer::Refused(causes::Cause::Kind);
     }
     write::write_block_u32(words, g, g.lines, out);
-    label::ReadAnswer::Accepted {
-        n,
-        runs: frame.runs,
-        joins: frame.joins,
-    }
+    label::ReadAnswer::Accepted { n, figures }
 }
 
 // ---- whole frames, for each kind of cell and of number
@@ -232,16 +267,8 @@ pub fn label_impl_u8_u8(
     ensures { λ r. ⌜ FramePromise u8 (now (shape .entry)) (now (structure .entry)) (now (words .entry)) (map nz (now (cells .entry)))
         (now (out .entry)) (readAnswer r) (now (words .exit)) (now (out .exit)) ⌝ }
 {
-    let found = causes::frame_check(shape, structure, words.len(), cells.len(), out.len());
-    let check = found.check;
-    match check {
-        causes::Check::Failed(cause) => label::ReadAnswer::Refused(cause),
-        causes::Check::Passed => {
-            let g = found.geo;
-            let frame = feed_all_u8(g, structure, words, cells, blocks);
-            number_u8(g, frame, words, out)
-        }
-    }
+    let frame = feed_frame_u8(shape, structure, words, cells, out.len(), blocks);
+    number_u8(frame, words, out)
 }
 
 pub fn label_impl_u8_u16(
@@ -255,16 +282,8 @@ pub fn label_impl_u8_u16(
     ensures { λ r. ⌜ FramePromise u16 (now (shape .entry)) (now (structure .entry)) (now (words .entry)) (map nz (now (cells .entry)))
         (now (out .entry)) (readAnswer r) (now (words .exit)) (now (out .exit)) ⌝ }
 {
-    let found = causes::frame_check(shape, structure, words.len(), cells.len(), out.len());
-    let check = found.check;
-    match check {
-        causes::Check::Failed(cause) => label::ReadAnswer::Refused(cause),
-        causes::Check::Passed => {
-            let g = found.geo;
-            let frame = feed_all_u8(g, structure, words, cells, blocks);
-            number_u16(g, frame, words, out)
-        }
-    }
+    let frame = feed_frame_u8(shape, structure, words, cells, out.len(), blocks);
+    number_u16(frame, words, out)
 }
 
 pub fn label_impl_u8_u32(
@@ -278,16 +297,8 @@ pub fn label_impl_u8_u32(
     ensures { λ r. ⌜ FramePromise u32 (now (shape .entry)) (now (structure .entry)) (now (words .entry)) (map nz (now (cells .entry)))
         (now (out .entry)) (readAnswer r) (now (words .exit)) (now (out .exit)) ⌝ }
 {
-    let found = causes::frame_check(shape, structure, words.len(), cells.len(), out.len());
-    let check = found.check;
-    match check {
-        causes::Check::Failed(cause) => label::ReadAnswer::Refused(cause),
-        causes::Check::Passed => {
-            let g = found.geo;
-            let frame = feed_all_u8(g, structure, words, cells, blocks);
-            number_u32(g, frame, words, out)
-        }
-    }
+    let frame = feed_frame_u8(shape, structure, words, cells, out.len(), blocks);
+    number_u32(frame, words, out)
 }
 
 pub fn label_impl_u16_u8(
@@ -301,16 +312,8 @@ pub fn label_impl_u16_u8(
     ensures { λ r. ⌜ FramePromise u8 (now (shape .entry)) (now (structure .entry)) (now (words .entry)) (map nz (now (cells .entry)))
         (now (out .entry)) (readAnswer r) (now (words .exit)) (now (out .exit)) ⌝ }
 {
-    let found = causes::frame_check(shape, structure, words.len(), cells.len(), out.len());
-    let check = found.check;
-    match check {
-        causes::Check::Failed(cause) => label::ReadAnswer::Refused(cause),
-        causes::Check::Passed => {
-            let g = found.geo;
-            let frame = feed_all_u16(g, structure, words, cells, blocks);
-            number_u8(g, frame, words, out)
-        }
-    }
+    let frame = feed_frame_u16(shape, structure, words, cells, out.len(), blocks);
+    number_u8(frame, words, out)
 }
 
 pub fn label_impl_u16_u16(
@@ -324,16 +327,8 @@ pub fn label_impl_u16_u16(
     ensures { λ r. ⌜ FramePromise u16 (now (shape .entry)) (now (structure .entry)) (now (words .entry)) (map nz (now (cells .entry)))
         (now (out .entry)) (readAnswer r) (now (words .exit)) (now (out .exit)) ⌝ }
 {
-    let found = causes::frame_check(shape, structure, words.len(), cells.len(), out.len());
-    let check = found.check;
-    match check {
-        causes::Check::Failed(cause) => label::ReadAnswer::Refused(cause),
-        causes::Check::Passed => {
-            let g = found.geo;
-            let frame = feed_all_u16(g, structure, words, cells, blocks);
-            number_u16(g, frame, words, out)
-        }
-    }
+    let frame = feed_frame_u16(shape, structure, words, cells, out.len(), blocks);
+    number_u16(frame, words, out)
 }
 
 pub fn label_impl_u16_u32(
@@ -347,16 +342,8 @@ pub fn label_impl_u16_u32(
     ensures { λ r. ⌜ FramePromise u32 (now (shape .entry)) (now (structure .entry)) (now (words .entry)) (map nz (now (cells .entry)))
         (now (out .entry)) (readAnswer r) (now (words .exit)) (now (out .exit)) ⌝ }
 {
-    let found = causes::frame_check(shape, structure, words.len(), cells.len(), out.len());
-    let check = found.check;
-    match check {
-        causes::Check::Failed(cause) => label::ReadAnswer::Refused(cause),
-        causes::Check::Passed => {
-            let g = found.geo;
-            let frame = feed_all_u16(g, structure, words, cells, blocks);
-            number_u32(g, frame, words, out)
-        }
-    }
+    let frame = feed_frame_u16(shape, structure, words, cells, out.len(), blocks);
+    number_u32(frame, words, out)
 }
 
 pub fn label_impl_i16_u8(
@@ -370,16 +357,8 @@ pub fn label_impl_i16_u8(
     ensures { λ r. ⌜ FramePromise u8 (now (shape .entry)) (now (structure .entry)) (now (words .entry)) (map nzℤ (now (cells .entry)))
         (now (out .entry)) (readAnswer r) (now (words .exit)) (now (out .exit)) ⌝ }
 {
-    let found = causes::frame_check(shape, structure, words.len(), cells.len(), out.len());
-    let check = found.check;
-    match check {
-        causes::Check::Failed(cause) => label::ReadAnswer::Refused(cause),
-        causes::Check::Passed => {
-            let g = found.geo;
-            let frame = feed_all_i16(g, structure, words, cells, blocks);
-            number_u8(g, frame, words, out)
-        }
-    }
+    let frame = feed_frame_i16(shape, structure, words, cells, out.len(), blocks);
+    number_u8(frame, words, out)
 }
 
 pub fn label_impl_i16_u16(
@@ -393,16 +372,8 @@ pub fn label_impl_i16_u16(
     ensures { λ r. ⌜ FramePromise u16 (now (shape .entry)) (now (structure .entry)) (now (words .entry)) (map nzℤ (now (cells .entry)))
         (now (out .entry)) (readAnswer r) (now (words .exit)) (now (out .exit)) ⌝ }
 {
-    let found = causes::frame_check(shape, structure, words.len(), cells.len(), out.len());
-    let check = found.check;
-    match check {
-        causes::Check::Failed(cause) => label::ReadAnswer::Refused(cause),
-        causes::Check::Passed => {
-            let g = found.geo;
-            let frame = feed_all_i16(g, structure, words, cells, blocks);
-            number_u16(g, frame, words, out)
-        }
-    }
+    let frame = feed_frame_i16(shape, structure, words, cells, out.len(), blocks);
+    number_u16(frame, words, out)
 }
 
 pub fn label_impl_i16_u32(
@@ -416,16 +387,8 @@ pub fn label_impl_i16_u32(
     ensures { λ r. ⌜ FramePromise u32 (now (shape .entry)) (now (structure .entry)) (now (words .entry)) (map nzℤ (now (cells .entry)))
         (now (out .entry)) (readAnswer r) (now (words .exit)) (now (out .exit)) ⌝ }
 {
-    let found = causes::frame_check(shape, structure, words.len(), cells.len(), out.len());
-    let check = found.check;
-    match check {
-        causes::Check::Failed(cause) => label::ReadAnswer::Refused(cause),
-        causes::Check::Passed => {
-            let g = found.geo;
-            let frame = feed_all_i16(g, structure, words, cells, blocks);
-            number_u32(g, frame, words, out)
-        }
-    }
+    let frame = feed_frame_i16(shape, structure, words, cells, out.len(), blocks);
+    number_u32(frame, words, out)
 }
 
 pub fn label_impl_f32_u8(
@@ -439,16 +402,8 @@ pub fn label_impl_f32_u8(
     ensures { λ r. ⌜ FramePromise u8 (now (shape .entry)) (now (structure .entry)) (now (words .entry)) (map nzF (now (cells .entry)))
         (now (out .entry)) (readAnswer r) (now (words .exit)) (now (out .exit)) ⌝ }
 {
-    let found = causes::frame_check(shape, structure, words.len(), cells.len(), out.len());
-    let check = found.check;
-    match check {
-        causes::Check::Failed(cause) => label::ReadAnswer::Refused(cause),
-        causes::Check::Passed => {
-            let g = found.geo;
-            let frame = feed_all_f32(g, structure, words, cells, blocks);
-            number_u8(g, frame, words, out)
-        }
-    }
+    let frame = feed_frame_f32(shape, structure, words, cells, out.len(), blocks);
+    number_u8(frame, words, out)
 }
 
 pub fn label_impl_f32_u16(
@@ -462,16 +417,8 @@ pub fn label_impl_f32_u16(
     ensures { λ r. ⌜ FramePromise u16 (now (shape .entry)) (now (structure .entry)) (now (words .entry)) (map nzF (now (cells .entry)))
         (now (out .entry)) (readAnswer r) (now (words .exit)) (now (out .exit)) ⌝ }
 {
-    let found = causes::frame_check(shape, structure, words.len(), cells.len(), out.len());
-    let check = found.check;
-    match check {
-        causes::Check::Failed(cause) => label::ReadAnswer::Refused(cause),
-        causes::Check::Passed => {
-            let g = found.geo;
-            let frame = feed_all_f32(g, structure, words, cells, blocks);
-            number_u16(g, frame, words, out)
-        }
-    }
+    let frame = feed_frame_f32(shape, structure, words, cells, out.len(), blocks);
+    number_u16(frame, words, out)
 }
 
 pub fn label_impl_f32_u32(
@@ -485,14 +432,6 @@ pub fn label_impl_f32_u32(
     ensures { λ r. ⌜ FramePromise u32 (now (shape .entry)) (now (structure .entry)) (now (words .entry)) (map nzF (now (cells .entry)))
         (now (out .entry)) (readAnswer r) (now (words .exit)) (now (out .exit)) ⌝ }
 {
-    let found = causes::frame_check(shape, structure, words.len(), cells.len(), out.len());
-    let check = found.check;
-    match check {
-        causes::Check::Failed(cause) => label::ReadAnswer::Refused(cause),
-        causes::Check::Passed => {
-            let g = found.geo;
-            let frame = feed_all_f32(g, structure, words, cells, blocks);
-            number_u32(g, frame, words, out)
-        }
-    }
+    let frame = feed_frame_f32(shape, structure, words, cells, out.len(), blocks);
+    number_u32(frame, words, out)
 }

@@ -1,4 +1,4 @@
--- Names of runs: the words with the first n runs named, and one run named more.
+-- Names of runs: the words with the first n runs named, one run named more, and the runs of a line.
 -- Assumes nothing.
 use mathlib.Core.Path.{_≡_, refl, sym, ap, ap₂, _∙_, subst, fun-ext}
 use mathlib.Core.Logic.{_≢_}
@@ -18,14 +18,12 @@ use Rattle.groups.specs.Groups.{count}
 use Rattle.groups.proofs.CountLaws.{count-on, count-off, count-mono, count-most}
 use Rattle.frame.specs.Lists.{setAll}
 use Rattle.frame.specs.Memory.{stride}
-use Rattle.frame.specs.Runs.{Run}
-use Rattle.frame.specs.Words.{namePlace, lineStart, runStart, runEnd, parentOf, nameOf, storedRun}
+use Rattle.frame.specs.Words.{namePlace, lineStart, parentOf, nameOf, storedRun}
 use Rattle.frame.proofs.SetLaws.{length-setAll, setAll-other, setAll-at}
 use Rattle.forest.specs.Forest.{rootOf, own, roots, numberIn}
 use Rattle.forest.proofs.ForestLaws.{root-stays, root-le, root-root, root-parent}
-use Rattle.write.specs.declared.NamedRun.{NamedRun}
 use Rattle.write.specs.Writes.{NamesReady, named}
-use Rattle.write.specs.Steps.{Named, NameReady, RunNamed}
+use Rattle.write.specs.Steps.{Named, NameReady, LineToName}
 
 -- ---- words set again
 
@@ -59,7 +57,7 @@ module _ {L a : ℕ} {ws now : List ℕ} {c : ℕ} (N : Named L a ws now c) wher
   now-other : (j : ℕ) → ((r : ℕ) → r < a → j ≢ namePlace L r) → getD now j 0 ≡ getD ws j 0
   now-other j h = ap (λ (vs : List ℕ). getD vs j 0) (N .names) ∙ setAll-other (namePlace L) (numberIn (parentOf L ws)) a ws j h
 
-  pub now-parents : parentOf L now ≡ parentOf L ws
+  now-parents : parentOf L now ≡ parentOf L ws
   now-parents = fun-ext (λ r. now-other _ (λ i h q. omega arith))
 
   pub now-runs : storedRun L now ≡ storedRun L ws
@@ -78,7 +76,7 @@ module _ {L a : ℕ} {ws now : List ℕ} {c : ℕ} (N : Named L a ws now c) wher
   }
 
   module _ (room : L + 1 + stride * a ≤ length ws) where
-    now-name : (r : ℕ) → r < a → nameOf L now r ≡ numberIn (parentOf L ws) r
+    pub now-name : (r : ℕ) → r < a → nameOf L now r ≡ numberIn (parentOf L ws) r
     now-name r h =
         ap (λ (vs : List ℕ). nameOf L vs r) (N .names)
         ∙ setAll-at (namePlace L) (numberIn (parentOf L ws)) a ws (λ i j x y q. omega arith) r h (omega arith)
@@ -178,20 +176,10 @@ module _ {L r : ℕ} {ws : List ℕ} {c : ℕ} (N : NameReady L r ws c) where
     pub count-fits : c + boolByte (eqb up r) < 4294967296
     count-fits = omega (arith, name-count, roots-most (parentOf L ws) (suc r), N .runs .small)
 
-    pub name-turn : {start end number : ℕ} → start ≡ getD ws (L + 1 + (stride * r + 0)) 0 → end ≡ runEnd L ws r
-        → number ≡ getD (set ws (namePlace L r) (c + 1)) (namePlace L up) 0
-        → RunNamed L r ws (set (set ws (namePlace L r) (c + 1)) (namePlace L r) number)
-        (record { roots = c + boolByte (eqb up r); start = start; end = end; number = number })
-    name-turn {start} {end} {number} is-start is-end is-number = record {
-      names = record { names = again ∙ whole; counted = name-count };
-      start = is-start ∙ ap (λ (j : ℕ). getD ws j 0) first;
-      end = is-end;
-      number = is-number ∙ name-read;
-    }
+    pub name-turn : {number : ℕ} → number ≡ getD (set ws (namePlace L r) (c + 1)) (namePlace L up) 0
+        → Named L (suc r) ws (set (set ws (namePlace L r) (c + 1)) (namePlace L r) number) (c + boolByte (eqb up r))
+    name-turn {number} is-number = record { names = again ∙ whole; counted = name-count }
       where
-        first : L + 1 + (stride * r + 0) ≡ L + 1 + stride * r
-        first = omega arith
-
         -- the second store at the place is the one that stands
         again : set (set ws (namePlace L r) (c + 1)) (namePlace L r) number ≡ set ws (namePlace L r) (numberIn (parentOf L ws) r)
         again = set-set ws (namePlace L r) (c + 1) number ∙ ap (λ (k : ℕ). set ws (namePlace L r) k) (is-number ∙ name-read)
@@ -211,15 +199,46 @@ module _ {L n : ℕ} {ws : List ℕ} (R : NamesReady L n ws) {r : ℕ} {now : Li
     before = named-still N (omega (arith, space));
   }
 
-  module _ {later : List ℕ} {run : NamedRun} (M : RunNamed L r now later run) where
-    pub next-named : Named L (suc r) ws later (run .roots)
-    next-named = named-then N (omega (arith, space)) (omega arith) (M .names)
+  pub next-named : {later : List ℕ} {d : ℕ} → Named L (suc r) now later d → Named L (suc r) ws later d
+  next-named M = named-then N (omega (arith, space)) (omega arith) M
 
-    pub next-start : run .start ≡ runStart L ws r
-    next-start = M .start ∙ ap (λ (f : ℕ → Run). f r .start) (now-runs N)
+-- ---- a line's runs, named up to before r, where `last` is the line's end
 
-    pub next-end : run .end ≡ runEnd L ws r
-    next-end = M .end ∙ ap (λ (f : ℕ → Run). f r .end) (now-runs N)
+pub record NamedTo (L ℓ : ℕ) (ws : List ℕ) (c₀ last : ℕ) (now : List ℕ) (c r : ℕ) : Type 0 where
+  pub asked : LineToName L ℓ ws c₀
+  pub is-last : last ≡ lineStart ws (suc ℓ)
+  pub upto : r ≤ last
+  pub names : Named L r ws now c
 
-    pub next-number : run .number ≡ numberIn (parentOf L ws) r
-    next-number = M .number ∙ ap (λ (p : ℕ → ℕ). numberIn p r) (now-parents N)
+pub line-begins : {L ℓ : ℕ} {ws : List ℕ} {c₀ last r : ℕ} → LineToName L ℓ ws c₀ → last ≡ lineStart ws (ℓ + 1) → r ≡ lineStart ws ℓ
+    → NamedTo L ℓ ws c₀ last ws c₀ r
+line-begins {L} {ℓ} {ws} {c₀} {last} A e is-r = record {
+  asked = A;
+  is-last = next;
+  upto = omega (arith, is-r, next, A .rising);
+  names = rw is-r (A .before);
+}
+  where
+    next : last ≡ lineStart ws (suc ℓ)
+    next = e ∙ ap (lineStart ws) (add-one ℓ)
+
+module _ {L ℓ : ℕ} {ws : List ℕ} {c₀ last : ℕ} {now : List ℕ} {c r : ℕ} (T : NamedTo L ℓ ws c₀ last now c r) where
+  module _ (taken : r < last) where
+    under : r < lineStart ws (suc ℓ)
+    under = omega (arith, T .is-last)
+
+    pub run-asked : NameReady L r now c
+    run-asked = next-asked (T .asked .runs) (T .names) under
+
+    pub line-turn : {later : List ℕ} {d : ℕ} → Named L (suc r) now later d → NamedTo L ℓ ws c₀ last later d (r + 1)
+    line-turn {later} {d} M = record {
+      asked = T .asked;
+      is-last = T .is-last;
+      upto = omega arith;
+      names = subst (λ (k : ℕ). Named L k ws later d) (sym (add-one r)) (next-named (T .asked .runs) (T .names) under M);
+    }
+
+  pub line-named : last ≤ r → Named L (lineStart ws (suc ℓ)) ws now c
+  line-named left =
+      let e : r ≡ lineStart ws (suc ℓ) = omega (arith, T .upto, T .is-last) in
+      subst (λ (k : ℕ). Named L k ws now c) e (T .names)

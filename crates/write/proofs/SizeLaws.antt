@@ -3,7 +3,7 @@
 use mathlib.Core.Path.{_≡_, refl, sym, ap, _∙_, subst}
 use mathlib.Core.Bool.{Bool, true, false}
 use mathlib.Core.List.{List}
-use Prim.Native.Nat.{ℕ, suc, _+_, _-_, _≤_, _<_}
+use Prim.Native.Nat.{ℕ, suc, _+_, _*_, _-_, _≤_, _<_}
 use native.Mathlib.Decide.{le-ind}
 use native.Mathlib.Nat.{le-refl}
 use native.Mathlib.Numerals.{add-one}
@@ -12,12 +12,14 @@ use borrow.Author.Tests.{eqb-true, eqb-false, eq-eqb, ne-eqb}
 use lib.Dec.{eqb}
 use lib.ListN.{length, getD, set, length-set}
 use lib.Seq.{getD-set-same, getD-set-other}
-use Rattle.frame.specs.Words.{runStart, runEnd, parentOf}
+use Rattle.frame.specs.Kinds.{u32}
+use Rattle.frame.specs.Memory.{stride}
+use Rattle.frame.specs.Runs.{Run}
+use Rattle.frame.specs.Words.{runStart, runEnd, parentOf, nameOf}
 use Rattle.forest.specs.Forest.{numberIn}
 use Rattle.write.specs.Writes.{runCells, SizesReady, SizesWritten}
-use Rattle.write.specs.declared.NamedRun.{NamedRun}
-use Rattle.write.specs.Steps.{Named, NameReady, RunNamed, Filled}
-use Rattle.write.proofs.NameLaws.{number-pos, number-le, named-none, next-asked, next-named, next-start, next-end, next-number}
+use Rattle.write.specs.Steps.{Named, NameReady, Filled}
+use Rattle.write.proofs.NameLaws.{now-long, now-runs, now-name, number-pos, number-le, named-none, next-asked, next-named}
 
 -- ---- how many cells the first runs with a number have
 
@@ -43,65 +45,81 @@ module _ (L : ℕ) (ws : List ℕ) where
 -- ---- the sizes up to before run r, where `count` is how many numbers there are
 
 pub record SizesTo (L n : ℕ) (ws : List ℕ) (count : ℕ) (now : List ℕ) (c : ℕ) (sizes : List ℕ) (r : ℕ) : Type 0 where
+  pub asked : SizesReady L n ws count
   pub upto : r ≤ n
   pub names : Named L r ws now c
   pub long : length sizes ≡ count
   pub counts : (g : ℕ) → g < count → getD sizes g 0 ≡ runCells L ws (suc g) r
 
-module _ {L n : ℕ} {ws : List ℕ} {count : ℕ} (A : SizesReady L n ws count) where
-  pub sizes-begin : {out zeros : List ℕ} → length out ≡ count → Filled 0 count 0 out zeros → SizesTo L n ws count ws 0 zeros 0
-  sizes-begin e F = record {
-    upto = omega arith;
-    names = named-none L ws;
-    long = F .long ∙ e;
-    counts = λ g h. F .inside g (omega arith) h ∙ sym (cells-none L ws (suc g));
-  }
+pub sizes-begin : {L n : ℕ} {ws out zeros : List ℕ} {count : ℕ} → SizesReady L n ws count → length out ≡ count
+    → Filled u32 0 count 0 out zeros → SizesTo L n ws count ws 0 zeros 0
+sizes-begin {L} {n} {ws} A e F = record {
+  asked = A;
+  upto = omega arith;
+  names = named-none L ws;
+  long = F .long ∙ e;
+  counts = λ g h. F .inside g (omega arith) h ∙ sym (cells-none L ws (suc g));
+}
 
-  module _ {now : List ℕ} {c : ℕ} {sizes : List ℕ} {r : ℕ} (T : SizesTo L n ws count now c sizes r) where
-    module _ (h : r < n) where
-      pub size-asked : NameReady L r now c
-      size-asked = next-asked (A .runs) (T .names) h
+module _ {L n : ℕ} {ws : List ℕ} {count : ℕ} {now : List ℕ} {c : ℕ} {sizes : List ℕ} {r : ℕ} (T : SizesTo L n ws count now c sizes r) where
+  abbrev A : SizesReady L n ws count
+  A = T .asked
 
-      module _ {later : List ℕ} {run : NamedRun} (N : RunNamed L r now later run) where
-        number-is : run .number ≡ numberIn (parentOf L ws) r
-        number-is = next-number (A .runs) (T .names) h N
+  module _ (h : r < n) where
+    pub size-asked : NameReady L r now c
+    size-asked = next-asked (A .runs) (T .names) h
+
+    module _ {later : List ℕ} {d : ℕ} (M : Named L (suc r) now later d) where
+      N : Named L (suc r) ws later d
+      N = next-named (A .runs) (T .names) h M
+
+      -- the run's words are there
+      pub size-words : L + 1 + stride * suc r ≤ length later
+      size-words = omega (arith, now-long N, A .runs .room)
+
+      module _ {number start end : ℕ} (at-number : number ≡ nameOf L later r)
+          (at-start : start ≡ getD later (L + 1 + (stride * r + 0)) 0) (at-end : end ≡ runEnd L later r) where
+        number-is : number ≡ numberIn (parentOf L ws) r
+        number-is = at-number ∙ now-name N (omega (arith, A .runs .room)) r (le-refl (suc r))
+
+        start-is : start ≡ runStart L ws r
+        start-is =
+            let e : L + 1 + (stride * r + 0) ≡ L + 1 + stride * r = omega arith in
+            at-start ∙ ap (λ (j : ℕ). getD later j 0) e ∙ ap (λ (f : ℕ → Run). f r .start) (now-runs N)
+
+        end-is : end ≡ runEnd L ws r
+        end-is = at-end ∙ ap (λ (f : ℕ → Run). f r .end) (now-runs N)
 
         -- the number is one of those that have a place
-        pub size-place : (1 ≤ run .number) × (run .number - 1 < length sizes)
+        pub size-place : (1 ≤ number) × (number - 1 < length sizes)
         size-place =
             let lo = number-pos (parentOf L ws) n (A .runs .parents) r h in
             let hi = number-le (parentOf L ws) n (A .runs .parents) r h in
             (omega (arith, number-is), omega (arith, number-is, A .groups, T .long))
 
-        start-is : run .start ≡ runStart L ws r
-        start-is = next-start (A .runs) (T .names) h N
-
-        end-is : run .end ≡ runEnd L ws r
-        end-is = next-end (A .runs) (T .names) h N
-
-        pub size-upward : run .start ≤ run .end
+        pub size-upward : start ≤ end
         size-upward = rw (start-is, end-is) (A .upward r h)
 
         -- its number's place, and the size there with this run's cells
         abbrev place : ℕ
-        place = run .number - 1
+        place = number - 1
 
         abbrev more : ℕ
-        more = getD sizes (run .number - 1) 0 + (run .end - run .start)
+        more = getD sizes (number - 1) 0 + (end - start)
 
         added : more ≡ runCells L ws (suc place) (suc r)
         added =
-            rw (T .counts (run .number - 1) (omega (arith, size-place, T .long)), start-is, end-is)
-            (omega (arith, cells-on L ws (suc (run .number - 1)) r (omega (arith, number-is, size-place))))
+            rw (T .counts (number - 1) (omega (arith, size-place, T .long)), start-is, end-is)
+            (omega (arith, cells-on L ws (suc (number - 1)) r (omega (arith, number-is, size-place))))
 
-        pub size-fits : getD sizes (run .number - 1) 0 + (run .end - run .start) < 4294967296
-        size-fits = omega (arith, added, cells-rise L ws (suc (run .number - 1)) (suc r) n h, A .small (suc (run .number - 1)))
+        pub size-fits : getD sizes (number - 1) 0 + (end - start) < 4294967296
+        size-fits = omega (arith, added, cells-rise L ws (suc (number - 1)) (suc r) n h, A .small (suc (number - 1)))
 
-        pub size-turn : SizesTo L n ws count later (run .roots)
-            (set sizes (run .number - 1) (getD sizes (run .number - 1) 0 + (run .end - run .start))) (r + 1)
-        size-turn = subst (λ (k : ℕ). SizesTo L n ws count later (run .roots) (set sizes place more) k) (sym (add-one r)) (record {
+        pub size-turn : SizesTo L n ws count later d (set sizes (number - 1) (getD sizes (number - 1) 0 + (end - start))) (r + 1)
+        size-turn = subst (SizesTo L n ws count later d (set sizes place more)) (sym (add-one r)) (record {
+          asked = A;
           upto = h;
-          names = next-named (A .runs) (T .names) h N;
+          names = N;
           long = length-set sizes place more ∙ T .long;
           counts = λ g l. go g l (eqb g place) refl;
         })
@@ -116,11 +134,11 @@ module _ {L n : ℕ} {ws : List ℕ} {count : ℕ} (A : SizesReady L n ws count)
                 getD-set-other sizes place g more 0 ne ∙ T .counts g l
                 ∙ sym (cells-off L ws (suc g) r (λ q. ne (omega (arith, q, number-is))))
 
-    pub sizes-done : {out : List ℕ} → length out ≡ count → n ≤ r → SizesWritten L n ws now out sizes
-    sizes-done {out} e left =
-        let all : r ≡ n = omega (arith, T .upto) in
-        record {
-          names = subst (λ (k : ℕ). Named L k ws now c) all (T .names) .names;
-          long = T .long ∙ sym e;
-          counts = λ g h. T .counts g (omega (arith, e)) ∙ ap (runCells L ws (suc g)) all;
-        }
+  pub sizes-done : {out : List ℕ} → length out ≡ count → n ≤ r → SizesWritten L n ws now out sizes
+  sizes-done {out} e left =
+      let all : r ≡ n = omega (arith, T .upto) in
+      record {
+        names = subst (λ (k : ℕ). Named L k ws now c) all (T .names) .names;
+        long = T .long ∙ sym e;
+        counts = λ g h. T .counts g (omega (arith, e)) ∙ ap (runCells L ws (suc g)) all;
+      }

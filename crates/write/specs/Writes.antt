@@ -6,6 +6,7 @@ use mathlib.Core.List.{List}
 use Prim.Native.Nat.{ℕ, zero, suc, _+_, _-_, _*_, _≤_, _<_}
 use lib.Dec.{eqb}
 use lib.ListN.{length, getD}
+use Rattle.frame.specs.Kinds.{Number, largest, Value, write}
 use Rattle.frame.specs.Lists.{setAll}
 use Rattle.frame.specs.Runs.{Covers}
 use Rattle.frame.specs.Memory.{stride}
@@ -34,11 +35,11 @@ pub record LinesHeld (L w fed : ℕ) (ws : List ℕ) : Type 0 where
   pub sorted : (m : ℕ) → m < fed → InOrder (storedRun L ws) (lineStart ws m) (lineStart ws (suc m))
   pub inside : (r : ℕ) → r < lineStart ws fed → runEnd L ws r ≤ w
 
--- what writing them asks, where `largest` is the kind's largest number, and out is the count of places
-pub record WriteReady (L w fed : ℕ) (ws : List ℕ) (largest out : ℕ) : Type 0 where
+-- what writing them asks, where out is the count of places
+pub record WriteReady (kind : Number) (L w fed : ℕ) (ws : List ℕ) (out : ℕ) : Type 0 where
   pub lines : LinesHeld L w fed ws
   pub runs : NamesReady L (lineStart ws fed) ws
-  pub fits : roots (parentOf L ws) (lineStart ws fed) ≤ largest
+  pub fits : roots (parentOf L ws) (lineStart ws fed) ≤ largest kind
   pub places : out ≡ L * w
 
 -- run r is one of line ℓ, which is fed, and covers column x
@@ -48,12 +49,16 @@ pub record AtCell (L fed : ℕ) (ws : List ℕ) (ℓ x r : ℕ) : Type 0 where
   pub high : r < lineStart ws (suc ℓ)
   pub covers : Covers (storedRun L ws r) x
 
+-- what place x of an output of the kind holds
+abbrev pub outputAt : (kind : Number) → List (Value kind) → ℕ → Value kind
+outputAt kind out x = getD out x (write kind 0)
+
 -- what it does: the runs are named, each cell that a run covers has that run's number, and every other cell 0
-pub record LinesWritten (L w fed : ℕ) (ws ws′ out out′ : List ℕ) : Type 0 where
+pub record LinesWritten (kind : Number) (L w fed : ℕ) (ws ws′ : List ℕ) (out out′ : List (Value kind)) : Type 0 where
   pub names : ws′ ≡ named L (lineStart ws fed) ws
   pub long : length out′ ≡ length out
-  pub covered : (ℓ x r : ℕ) → AtCell L fed ws ℓ x r → getD out′ (ℓ * w + x) 0 ≡ numberIn (parentOf L ws) r
-  pub zeros : (ℓ x : ℕ) → ℓ < L → x < w → ((r : ℕ) → AtCell L fed ws ℓ x r → ⊥) → getD out′ (ℓ * w + x) 0 ≡ 0
+  pub covered : (ℓ x r : ℕ) → AtCell L fed ws ℓ x r → outputAt kind out′ (ℓ * w + x) ≡ write kind (numberIn (parentOf L ws) r)
+  pub zeros : (ℓ x : ℕ) → ℓ < L → x < w → ((r : ℕ) → AtCell L fed ws ℓ x r → ⊥) → outputAt kind out′ (ℓ * w + x) ≡ write kind 0
 
 -- ---- the cells of each group
 

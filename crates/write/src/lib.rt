@@ -1,21 +1,22 @@
 // What a reading and a size call write. Nothing here knows a record.
 //
-//     name_run       the name of one run: its number
-//     paint_T        one run's cells, for each kind of number T
-//     write_line_T   one line's numbers, into that line's part of the output
-//     write_block_T  every line's: the fed ones' numbers, zeros for the others
-//     size_block     how many cells each number has
+//     name_run, name_line   the names of one run and of one line's runs: their numbers
+//     paint_run_T           one run's cells, for each kind of number T
+//     paint_line_T          one line's cells, each with the name of its run, into that line's part of the output
+//     write_block_T         every line: the fed ones named and painted, zeros for the others
+//     size_block            how many cells each number has
 //
-// Promised (specs/Writes.antt): each run has its number as its name and no other word changes, each cell has the number of the run that
-// covers it or 0, and each size is the count of its number's cells.
+// Naming writes words and no output, once for all kinds; painting reads words and writes the output. Promised (specs/Writes.antt): each
+// run has its number as its name and no other word changes, each cell has the number of the run that covers it or 0, and each size is the
+// count of its number's cells.
 ghost use mathlib.Core.Path.{_≡_};
 ghost use Prim.Native.Nat.{suc, _+_, _*_, _≤_, _<_};
 ghost use lib.ListN.{length, getD};
 ghost use Rattle.frame.specs.Memory.{stride};
 ghost use Rattle.frame.specs.Words.{lineStart};
-ghost use Rattle.frame.specs.Kinds.{largest, u8, u16, u32};
+ghost use Rattle.frame.specs.Kinds.{u8, u16, u32, write};
 ghost use Rattle.write.specs.Writes.{WriteReady, LinesWritten, SizesReady, SizesWritten};
-ghost use Rattle.write.specs.Steps.{NameReady, RunNamed, Filled, PaintReady, LineToWrite, LineWritten};
+ghost use Rattle.write.specs.Steps.{Named, NameReady, LineToName, Filled, PaintReady, LineToPaint, LinePainted};
 
 // ---- kinds of numbers: the largest, and a number written as one
 
@@ -26,7 +27,7 @@ impl LabelU8 {
 
     pub fn from_u32(number: u32) -> u8
         requires { do ⌜ number ≤ (← ⟦LabelU8::MAXV⟧) ⌝ }
-        ensures { λ r. ⌜ r ≡ number ⌝ }
+        ensures { λ r. ⌜ r ≡ write u8 number ⌝ }
     {
         number as u8
     }
@@ -39,7 +40,7 @@ impl LabelU16 {
 
     pub fn from_u32(number: u32) -> u16
         requires { do ⌜ number ≤ (← ⟦LabelU16::MAXV⟧) ⌝ }
-        ensures { λ r. ⌜ r ≡ number ⌝ }
+        ensures { λ r. ⌜ r ≡ write u16 number ⌝ }
     {
         number as u16
     }
@@ -52,7 +53,7 @@ impl LabelU32 {
 
     pub fn from_u32(number: u32) -> u32
         requires { do ⌜ number ≤ (← ⟦LabelU32::MAXV⟧) ⌝ }
-        ensures { λ r. ⌜ r ≡ number ⌝ }
+        ensures { λ r. ⌜ r ≡ write u32 number ⌝ }
     {
         number
     }
@@ -76,34 +77,35 @@ fn word(words: &[u32], lines: usize, r: usize, part: usize) -> u32
     words[lines + 1 + (frame::STRIDE * r + part)]
 }
 
-// A run that has its name: the count of roots up to it, its cells, `start` to before `end`, and its number.
-struct NamedRun {
-    roots: u32,
-    start: usize,
-    end: usize,
-    number: u32,
-}
-
-// Names run `r`, where the runs before it are named and `c` counts the roots among them. A root's number is the new count, every other
-// run's that of its parent. Both are read at the parent, without a branch: at a root the new count was just stored.
-fn name_run(words: &mut [u32], lines: usize, r: usize, c: u32) -> NamedRun
+// Names run `r`, where the runs before it are named and `c` counts the roots among them; answers the count of roots up to it. A root's
+// number is the new count, every other run's that of its parent. Both are read at the parent, without a branch: at a root the new count
+// was just stored.
+fn name_run(words: &mut [u32], lines: usize, r: usize, c: u32) -> u32
     requires { ⌜ NameReady lines r (now words) c ⌝ }
-    ensures { λ s. ⌜ RunNamed lines r (now (words .entry)) (now (words .exit)) s ⌝ }
+    ensures { λ n. ⌜ Named lines (suc r) (now (words .entry)) (now (words .exit)) n ⌝ }
 {
-    let start = word(words, lines, r, 0) as usize;
-    let end = word(words, lines, r, frame::END) as usize;
     let up = word(words, lines, r, frame::PARENT) as usize;
     let at = lines + 1 + (frame::STRIDE * r + frame::NAME);
     words[at] = c + 1;
     let number = word(words, lines, up, frame::NAME);
     words[at] = number;
-    let roots = c + (up == r) as u32;
-    NamedRun {
-        roots,
-        start,
-        end,
-        number,
+    c + (up == r) as u32
+}
+
+// Names the runs of a line, where the runs before it are named and `c` counts the roots among them; answers the count of roots up to
+// the line's last run.
+fn name_line(words: &mut [u32], lines: usize, line: usize, c: u32) -> u32
+    requires { ⌜ LineToName lines line (now words) c ⌝ }
+    ensures { λ n. ⌜ Named lines (lineStart (now (words .entry)) (suc line)) (now (words .entry)) (now (words .exit)) n ⌝ }
+{
+    let last = line_start(words, line + 1);
+    let mut named = c;
+    let mut r = line_start(words, line);
+    while r < last {
+        named = name_run(words, lines, r, named);
+        r += 1;
     }
+    named
 }
 
 // ---- numbers as u8
@@ -111,7 +113,7 @@ fn name_run(words: &mut [u32], lines: usize, r: usize, c: u32) -> NamedRun
 // Writes `v` to the cells `a` to before `e`.
 fn fill_u8(out: &mut [u8], a: usize, e: usize, v: u8)
     requires { ⌜ e ≤ length (now out) ⌝ }
-    ensures { λ _. ⌜ Filled a e v (now (out .entry)) (now (out .exit)) ⌝ }
+    ensures { λ _. ⌜ Filled u8 a e v (now (out .entry)) (now (out .exit)) ⌝ }
 {
     let mut x = a;
     while x < e {
@@ -123,7 +125,7 @@ fn fill_u8(out: &mut [u8], a: usize, e: usize, v: u8)
 // Writes `v` to eight cells from `x` on.
 fn eight_u8(out: &mut [u8], x: usize, v: u8)
     requires { ⌜ x + 8 ≤ length (now out) ⌝ }
-    ensures { λ _. ⌜ Filled x (x + 8) v (now (out .entry)) (now (out .exit)) ⌝ }
+    ensures { λ _. ⌜ Filled u8 x (x + 8) v (now (out .entry)) (now (out .exit)) ⌝ }
 {
     let mut i: usize = 0;
     while i < 8 {
@@ -134,9 +136,9 @@ fn eight_u8(out: &mut [u8], x: usize, v: u8)
 
 // Writes `v` to the cells `s` to before `e` of a line of `width` cells, past which there are zeros: eight at a time where the line has
 // eight cells more, which get their zeros back.
-fn paint_u8(out: &mut [u8], s: usize, e: usize, width: usize, v: u8)
-    requires { ⌜ PaintReady s e width (now out) ⌝ }
-    ensures { λ _. ⌜ Filled s e v (now (out .entry)) (now (out .exit)) ⌝ }
+fn paint_run_u8(out: &mut [u8], s: usize, e: usize, width: usize, v: u8)
+    requires { ⌜ PaintReady u8 s e width (now out) ⌝ }
+    ensures { λ _. ⌜ Filled u8 s e v (now (out .entry)) (now (out .exit)) ⌝ }
 {
     if width - e >= 8 {
         let mut x = s;
@@ -150,42 +152,36 @@ fn paint_u8(out: &mut [u8], s: usize, e: usize, width: usize, v: u8)
     }
 }
 
-// Names the runs of a line and writes their numbers; answers the count of roots up to the line's last run.
-fn write_line_u8(words: &mut [u32], g: geo::Geo, line: usize, c: u32, out: &mut [u8]) -> u32
-    requires { ⌜ LineToWrite (g .lines) (g .width) line (now words) c (largest u8) (length (now out)) ⌝ }
-    ensures { λ s. ⌜ LineWritten (g .lines) (g .width) line
-        (now (words .entry)) (now (words .exit)) s (now (out .entry)) (now (out .exit)) ⌝ }
+// Writes a line whose runs are named: zeros, and then each run's name to its cells.
+fn paint_line_u8(words: &[u32], g: geo::Geo, line: usize, out: &mut [u8])
+    requires { ⌜ LineToPaint u8 (g .lines) (g .width) line (now words) (length (now out)) ⌝ }
+    ensures { λ _. ⌜ LinePainted u8 (g .lines) (g .width) line (now (words .entry)) (now (out .entry)) (now (out .exit)) ⌝ }
 {
     fill_u8(out, 0, g.width, 0);
-    let end = line_start(words, line + 1);
-    let mut named = c;
+    let last = line_start(words, line + 1);
     let mut r = line_start(words, line);
-    while r < end {
-        let run = name_run(words, g.lines, r, named);
-        paint_u8(
-            out,
-            run.start,
-            run.end,
-            g.width,
-            LabelU8::from_u32(run.number),
-        );
-        named = run.roots;
+    while r < last {
+        let start = word(words, g.lines, r, 0) as usize;
+        let end = word(words, g.lines, r, frame::END) as usize;
+        let name = LabelU8::from_u32(word(words, g.lines, r, frame::NAME));
+        paint_run_u8(out, start, end, g.width, name);
         r += 1;
     }
-    named
 }
 
-// Names all runs, writes each fed line's numbers, and zeros to the other lines.
+// Names all runs, writes each fed line's numbers, and zeros to the other lines. Each line is painted as soon as its runs are named,
+// while their words are at hand.
 pub fn write_block_u8(words: &mut [u32], g: geo::Geo, fed: usize, out: &mut [u8])
-    requires { ⌜ WriteReady (g .lines) (g .width) fed (now words) (largest u8) (length (now out)) ⌝ }
-    ensures { λ _. ⌜ LinesWritten (g .lines) (g .width) fed
+    requires { ⌜ WriteReady u8 (g .lines) (g .width) fed (now words) (length (now out)) ⌝ }
+    ensures { λ _. ⌜ LinesWritten u8 (g .lines) (g .width) fed
         (now (words .entry)) (now (words .exit)) (now (out .entry)) (now (out .exit)) ⌝ }
 {
     let mut named: u32 = 0;
     let mut line: usize = 0;
     while line < fed {
         let at = line * g.width;
-        named = write_line_u8(words, g, line, named, &mut out[at..]);
+        named = name_line(words, g.lines, line, named);
+        paint_line_u8(words, g, line, &mut out[at..]);
         line += 1;
     }
     let places = out.len();
@@ -196,7 +192,7 @@ pub fn write_block_u8(words: &mut [u32], g: geo::Geo, fed: usize, out: &mut [u8]
 
 fn fill_u16(out: &mut [u16], a: usize, e: usize, v: u16)
     requires { ⌜ e ≤ length (now out) ⌝ }
-    ensures { λ _. ⌜ Filled a e v (now (out .entry)) (now (out .exit)) ⌝ }
+    ensures { λ _. ⌜ Filled u16 a e v (now (out .entry)) (now (out .exit)) ⌝ }
 {
     let mut x = a;
     while x < e {
@@ -207,7 +203,7 @@ fn fill_u16(out: &mut [u16], a: usize, e: usize, v: u16)
 
 fn eight_u16(out: &mut [u16], x: usize, v: u16)
     requires { ⌜ x + 8 ≤ length (now out) ⌝ }
-    ensures { λ _. ⌜ Filled x (x + 8) v (now (out .entry)) (now (out .exit)) ⌝ }
+    ensures { λ _. ⌜ Filled u16 x (x + 8) v (now (out .entry)) (now (out .exit)) ⌝ }
 {
     let mut i: usize = 0;
     while i < 8 {
@@ -216,9 +212,9 @@ fn eight_u16(out: &mut [u16], x: usize, v: u16)
     }
 }
 
-fn paint_u16(out: &mut [u16], s: usize, e: usize, width: usize, v: u16)
-    requires { ⌜ PaintReady s e width (now out) ⌝ }
-    ensures { λ _. ⌜ Filled s e v (now (out .entry)) (now (out .exit)) ⌝ }
+fn paint_run_u16(out: &mut [u16], s: usize, e: usize, width: usize, v: u16)
+    requires { ⌜ PaintReady u16 s e width (now out) ⌝ }
+    ensures { λ _. ⌜ Filled u16 s e v (now (out .entry)) (now (out .exit)) ⌝ }
 {
     if width - e >= 8 {
         let mut x = s;
@@ -232,40 +228,33 @@ fn paint_u16(out: &mut [u16], s: usize, e: usize, width: usize, v: u16)
     }
 }
 
-fn write_line_u16(words: &mut [u32], g: geo::Geo, line: usize, c: u32, out: &mut [u16]) -> u32
-    requires { ⌜ LineToWrite (g .lines) (g .width) line (now words) c (largest u16) (length (now out)) ⌝ }
-    ensures { λ s. ⌜ LineWritten (g .lines) (g .width) line
-        (now (words .entry)) (now (words .exit)) s (now (out .entry)) (now (out .exit)) ⌝ }
+fn paint_line_u16(words: &[u32], g: geo::Geo, line: usize, out: &mut [u16])
+    requires { ⌜ LineToPaint u16 (g .lines) (g .width) line (now words) (length (now out)) ⌝ }
+    ensures { λ _. ⌜ LinePainted u16 (g .lines) (g .width) line (now (words .entry)) (now (out .entry)) (now (out .exit)) ⌝ }
 {
     fill_u16(out, 0, g.width, 0);
-    let end = line_start(words, line + 1);
-    let mut named = c;
+    let last = line_start(words, line + 1);
     let mut r = line_start(words, line);
-    while r < end {
-        let run = name_run(words, g.lines, r, named);
-        paint_u16(
-            out,
-            run.start,
-            run.end,
-            g.width,
-            LabelU16::from_u32(run.number),
-        );
-        named = run.roots;
+    while r < last {
+        let start = word(words, g.lines, r, 0) as usize;
+        let end = word(words, g.lines, r, frame::END) as usize;
+        let name = LabelU16::from_u32(word(words, g.lines, r, frame::NAME));
+        paint_run_u16(out, start, end, g.width, name);
         r += 1;
     }
-    named
 }
 
 pub fn write_block_u16(words: &mut [u32], g: geo::Geo, fed: usize, out: &mut [u16])
-    requires { ⌜ WriteReady (g .lines) (g .width) fed (now words) (largest u16) (length (now out)) ⌝ }
-    ensures { λ _. ⌜ LinesWritten (g .lines) (g .width) fed
+    requires { ⌜ WriteReady u16 (g .lines) (g .width) fed (now words) (length (now out)) ⌝ }
+    ensures { λ _. ⌜ LinesWritten u16 (g .lines) (g .width) fed
         (now (words .entry)) (now (words .exit)) (now (out .entry)) (now (out .exit)) ⌝ }
 {
     let mut named: u32 = 0;
     let mut line: usize = 0;
     while line < fed {
         let at = line * g.width;
-        named = write_line_u16(words, g, line, named, &mut out[at..]);
+        named = name_line(words, g.lines, line, named);
+        paint_line_u16(words, g, line, &mut out[at..]);
         line += 1;
     }
     let places = out.len();
@@ -276,7 +265,7 @@ pub fn write_block_u16(words: &mut [u32], g: geo::Geo, fed: usize, out: &mut [u1
 
 fn fill_u32(out: &mut [u32], a: usize, e: usize, v: u32)
     requires { ⌜ e ≤ length (now out) ⌝ }
-    ensures { λ _. ⌜ Filled a e v (now (out .entry)) (now (out .exit)) ⌝ }
+    ensures { λ _. ⌜ Filled u32 a e v (now (out .entry)) (now (out .exit)) ⌝ }
 {
     let mut x = a;
     while x < e {
@@ -287,7 +276,7 @@ fn fill_u32(out: &mut [u32], a: usize, e: usize, v: u32)
 
 fn eight_u32(out: &mut [u32], x: usize, v: u32)
     requires { ⌜ x + 8 ≤ length (now out) ⌝ }
-    ensures { λ _. ⌜ Filled x (x + 8) v (now (out .entry)) (now (out .exit)) ⌝ }
+    ensures { λ _. ⌜ Filled u32 x (x + 8) v (now (out .entry)) (now (out .exit)) ⌝ }
 {
     let mut i: usize = 0;
     while i < 8 {
@@ -296,9 +285,9 @@ fn eight_u32(out: &mut [u32], x: usize, v: u32)
     }
 }
 
-fn paint_u32(out: &mut [u32], s: usize, e: usize, width: usize, v: u32)
-    requires { ⌜ PaintReady s e width (now out) ⌝ }
-    ensures { λ _. ⌜ Filled s e v (now (out .entry)) (now (out .exit)) ⌝ }
+fn paint_run_u32(out: &mut [u32], s: usize, e: usize, width: usize, v: u32)
+    requires { ⌜ PaintReady u32 s e width (now out) ⌝ }
+    ensures { λ _. ⌜ Filled u32 s e v (now (out .entry)) (now (out .exit)) ⌝ }
 {
     if width - e >= 8 {
         let mut x = s;
@@ -312,40 +301,33 @@ fn paint_u32(out: &mut [u32], s: usize, e: usize, width: usize, v: u32)
     }
 }
 
-fn write_line_u32(words: &mut [u32], g: geo::Geo, line: usize, c: u32, out: &mut [u32]) -> u32
-    requires { ⌜ LineToWrite (g .lines) (g .width) line (now words) c (largest u32) (length (now out)) ⌝ }
-    ensures { λ s. ⌜ LineWritten (g .lines) (g .width) line
-        (now (words .entry)) (now (words .exit)) s (now (out .entry)) (now (out .exit)) ⌝ }
+fn paint_line_u32(words: &[u32], g: geo::Geo, line: usize, out: &mut [u32])
+    requires { ⌜ LineToPaint u32 (g .lines) (g .width) line (now words) (length (now out)) ⌝ }
+    ensures { λ _. ⌜ LinePainted u32 (g .lines) (g .width) line (now (words .entry)) (now (out .entry)) (now (out .exit)) ⌝ }
 {
     fill_u32(out, 0, g.width, 0);
-    let end = line_start(words, line + 1);
-    let mut named = c;
+    let last = line_start(words, line + 1);
     let mut r = line_start(words, line);
-    while r < end {
-        let run = name_run(words, g.lines, r, named);
-        paint_u32(
-            out,
-            run.start,
-            run.end,
-            g.width,
-            LabelU32::from_u32(run.number),
-        );
-        named = run.roots;
+    while r < last {
+        let start = word(words, g.lines, r, 0) as usize;
+        let end = word(words, g.lines, r, frame::END) as usize;
+        let name = LabelU32::from_u32(word(words, g.lines, r, frame::NAME));
+        paint_run_u32(out, start, end, g.width, name);
         r += 1;
     }
-    named
 }
 
 pub fn write_block_u32(words: &mut [u32], g: geo::Geo, fed: usize, out: &mut [u32])
-    requires { ⌜ WriteReady (g .lines) (g .width) fed (now words) (largest u32) (length (now out)) ⌝ }
-    ensures { λ _. ⌜ LinesWritten (g .lines) (g .width) fed
+    requires { ⌜ WriteReady u32 (g .lines) (g .width) fed (now words) (length (now out)) ⌝ }
+    ensures { λ _. ⌜ LinesWritten u32 (g .lines) (g .width) fed
         (now (words .entry)) (now (words .exit)) (now (out .entry)) (now (out .exit)) ⌝ }
 {
     let mut named: u32 = 0;
     let mut line: usize = 0;
     while line < fed {
         let at = line * g.width;
-        named = write_line_u32(words, g, line, named, &mut out[at..]);
+        named = name_line(words, g.lines, line, named);
+        paint_line_u32(words, g, line, &mut out[at..]);
         line += 1;
     }
     let places = out.len();
@@ -365,9 +347,11 @@ pub fn size_block(words: &mut [u32], lines: usize, runs: usize, sizes: &mut [u32
     let mut named: u32 = 0;
     let mut r: usize = 0;
     while r < runs {
-        let run = name_run(words, lines, r, named);
-        sizes[run.number as usize - 1] += (run.end - run.start) as u32;
-        named = run.roots;
+        named = name_run(words, lines, r, named);
+        let start = word(words, lines, r, 0);
+        let end = word(words, lines, r, frame::END);
+        let number = word(words, lines, r, frame::NAME);
+        sizes[number as usize - 1] += end - start;
         r += 1;
     }
 }

@@ -9,7 +9,7 @@ mod ours;
 use drivers::drawn::{CROSS, FULL, disks, hard_frames, noise};
 use drivers::plain::words_needed;
 use drivers::random::Random;
-use ours::{Fed, Labels, label_open, label_record_words};
+use ours::{ANSWER, Fed, Labels, Reads, label_open, label_record_words, label_sizes};
 use std::hint::black_box;
 use std::time::Instant;
 
@@ -82,7 +82,7 @@ fn times<C: Timed>(memory: &mut Memory, shape: &[usize], structure: &[u8], flags
     let cells: Vec<C> = flags.iter().map(|&f| C::of(f)).collect();
     let words = first(&mut memory.words, words_needed(shape, structure));
     let (theirs, out) = (first(&mut memory.rust, cells.len()), first(&mut memory.ours, cells.len()));
-    let (mut n, mut said, mut answer, mut best) = (None, 0, [0u64; 4], NEVER);
+    let (mut n, mut said, mut answer, mut best) = (None, 0, [0u64; ANSWER], NEVER);
     let (s, b, w, c, o, a) = (shape.len(), structure.len(), words.len(), cells.len(), out.len(), answer.len());
     for _ in 0..tries {
         let rust = seconds(|| n = reference::label_impl(shape, structure, &cells, theirs, 1));
@@ -222,7 +222,7 @@ struct Scan {
     n: usize,
     words: Vec<u32>,
     record: Vec<u64>,
-    answer: [u64; 4],
+    answer: [u64; ANSWER],
 }
 
 impl Scan {
@@ -232,7 +232,7 @@ impl Scan {
         let (room, length) = (words.len(), record.len());
         let said = unsafe { label_open([n, n].as_ptr(), 2, CROSS.as_ptr(), 9, words.as_mut_ptr(), room, record.as_mut_ptr(), length) };
         assert_eq!(said, 0);
-        Scan { n, words, record, answer: [0; 4] }
+        Scan { n, words, record, answer: [0; ANSWER] }
     }
 
     /// Seconds of a feed of `k` lines.
@@ -243,6 +243,38 @@ impl Scan {
         let t = t.elapsed().as_secs_f64();
         assert_eq!(said, 0);
         t
+    }
+
+    /// Milliseconds of a reading, or NaN where the kind does not hold n.
+    fn read<N: Reads + Default + Clone>(&mut self, tries: usize) -> f64 {
+        let mut out = vec![N::default(); self.n * self.n];
+        let mut least = f64::NAN;
+        for _ in 0..tries {
+            let (r, w, a) = (&self.record, &mut self.words, &mut self.answer);
+            let t = Instant::now();
+            let said = unsafe { N::READ(r.as_ptr(), r.len(), w.as_mut_ptr(), w.len(), out.as_mut_ptr(), out.len(), a.as_mut_ptr(), a.len()) };
+            let t = t.elapsed().as_secs_f64() * 1e3;
+            assert!(said == 0 || said == 10);
+            if said == 0 {
+                least = least.min(t);
+            }
+        }
+        least
+    }
+
+    /// Milliseconds of a size call. n is in the answer before.
+    fn sizes(&mut self, tries: usize) -> f64 {
+        let n = (self.answer[1] - self.answer[2]) as usize;
+        let mut sizes = vec![0u32; n];
+        let mut least = f64::MAX;
+        for _ in 0..tries {
+            let (r, w, a) = (&self.record, &mut self.words, &mut self.answer);
+            let t = Instant::now();
+            let said = unsafe { label_sizes(r.as_ptr(), r.len(), w.as_mut_ptr(), w.len(), sizes.as_mut_ptr(), n, a.as_mut_ptr(), a.len()) };
+            least = least.min(t.elapsed().as_secs_f64() * 1e3);
+            assert_eq!(said, 0);
+        }
+        least
     }
 
     /// A feed looks at every stored run. A feed of no lines does just that, and changes nothing.
@@ -284,6 +316,20 @@ fn session(r: &mut Random, tries: usize) {
     }
 }
 
+/// A reading and a size call look at every stored run too.
+fn readings(r: &mut Random, tries: usize) {
+    println!("a session of 1,024 by 1,024, all lines fed, ms: a feed of no lines; a reading into u8, u16, u32 (NaN: the kind does not hold n); a size call");
+    let n = 1024;
+    for (what, cells) in [("clumps 10%", disks(r, n, 10)), ("clumps 40%", disks(r, n, 40)), ("noise 10%", noise(r, n * n, 10)), ("noise 50%", noise(r, n * n, 50))] {
+        let mut scan = Scan::open(n);
+        scan.feed(n, &cells);
+        let look = (0..tries).fold(f64::MAX, |least, _| least.min(scan.feed(0, &[]))) * 1e3;
+        let (runs, joins) = (scan.answer[1], scan.answer[2]);
+        let (a, b, c) = (scan.read::<u8>(tries), scan.read::<u16>(tries), scan.read::<u32>(tries));
+        println!("{what}, {runs:>6} runs, n {:>6}: {look:6.3} {a:6.3} {b:6.3} {c:6.3} {:6.3}", runs - joins, scan.sizes(tries));
+    }
+}
+
 #[inline(never)]
 fn three(stored: &[u32]) -> u32 {
     let mut s = 0u32;
@@ -309,4 +355,5 @@ fn main() {
     others(&mut memory, &mut r, &frames, tries / 2);
     hard(&mut memory, &mut r, tries / 2);
     session(&mut r, tries);
+    readings(&mut r, 5 * tries);
 }

@@ -13,10 +13,10 @@ enum-told : tie.Need-enum-told
 enum-told c = search needs
 
 returns : tie.Need-returns
-returns c = (refl, says-cause _ (c .before .before .before .args .check) (c .before .check .given .1) _)
+returns c = (refl, says-cause _ (c .before .before .before .before .args .check) (c .before .check .given .1) _)
 
 returns-2 : tie.Need-returns-2
-returns-2 c = (refl, says-done (c .before .before .args .check) (c .enum-told .given .1) _)
+returns-2 c = (refl, says-done (c .before .before .before .args .check) (c .enum-told .given .1) _)
 
 pub answer-feed-spec : {M : Type 1} → statement M
 answer-feed-spec = tie.close (tie.spec enum-known-check enum-told returns returns-2)

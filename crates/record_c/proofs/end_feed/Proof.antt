@@ -13,8 +13,8 @@ enum-known-said c = search needs
 write-record-requires : tie.Need-write-record-requires
 write-record-requires c κs = tt
 
-put-three-requires : tie.Need-put-three-requires
-put-three-requires c κs = tt
+put-figures-requires : tie.Need-put-figures-requires
+put-figures-requires c κs = tt
 
 enum-known-said-2 : tie.Need-enum-known-said-2
 enum-known-said-2 c = search needs
@@ -29,7 +29,7 @@ same-length-2 : tie.Need-same-length-2
 same-length-2 c = search needs
 
 returns : tie.Need-returns
-returns c = rw (c .before .before .before .before .before .before .before .before .before .said .given .1) (record { ends = ends-written _ refl (c .before .before .put-three .ensures); record-is = record-written 0 _ _ refl (c .before .before .before .before .before .before .write-record .ensures) })
+returns c = rw (c .before .before .before .before .before .before .before .before .before .said .given .1) (record { ends = ends-written _ refl (c .before .before .put-figures .ensures); record-is = record-written 0 _ _ refl (c .before .before .before .before .before .before .write-record .ensures) })
 
 returns-2 : tie.Need-returns-2
 returns-2 c = let g = c .before .before .said2 .given in rw (g .1) (record { ends = ends-refused _ _ (c .number .ensures); record-is = record-stands _ _ _ (positive (g .0 .0)) })
@@ -40,7 +40,7 @@ end-feed-spec =
     (tie.spec
     enum-known-said
     write-record-requires
-    put-three-requires
+    put-figures-requires
     enum-known-said-2
     number-requires
     same-length

@@ -9,8 +9,8 @@ use Rattle.record_c.proofs.end_read.Tie as tie
 enum-known-said : tie.Need-enum-known-said
 enum-known-said c = search needs
 
-put-three-requires : tie.Need-put-three-requires
-put-three-requires c κs = tt
+put-figures-requires : tie.Need-put-figures-requires
+put-figures-requires c κs = tt
 
 enum-known-said-2 : tie.Need-enum-known-said-2
 enum-known-said-2 c = search needs
@@ -22,7 +22,7 @@ same-length : tie.Need-same-length
 same-length c = search needs
 
 returns : tie.Need-returns
-returns c = rw (c .before .before .before .before .before .said .given .1) (ends-written _ refl (c .before .before .put-three .ensures))
+returns c = rw (c .before .before .before .before .before .said .given .1) (ends-written _ refl (c .before .before .put-figures .ensures))
 
 returns-2 : tie.Need-returns-2
 returns-2 c = rw (c .before .before .said2 .given .1) (ends-refused _ _ (c .number .ensures))
@@ -32,7 +32,7 @@ end-read-spec =
     tie.close
     (tie.spec
     enum-known-said
-    put-three-requires
+    put-figures-requires
     enum-known-said-2
     number-requires
     same-length

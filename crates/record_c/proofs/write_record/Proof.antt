@@ -15,15 +15,18 @@ put-shape-requires c κs = tt
 put-bytes-requires : tie.Need-put-bytes-requires
 put-bytes-requires c κs = tt
 
-put-three-requires : tie.Need-put-three-requires
-put-three-requires c κs = tt
+put-figures-requires : tie.Need-put-figures-requires
+put-figures-requires c κs = tt
 
 same-length : tie.Need-same-length
 same-length c = search needs
 
 returns : tie.Need-returns
 unfolding wordsOf
-returns c = adds-first (adds-then (c .before .before .before .before .before .before .before .before .before .before .before .before .before .before .before .before .before .before .put .ensures) (adds-then (c .before .before .before .before .before .before .before .before .before .before .before .before .before .put-shape .ensures) (adds-then (c .before .before .before .before .before .before .put-bytes .ensures) (c .before .before .put-three .ensures)))) .now-is
+returns c =
+    let shape = c .before .before .before .before .before .before .before .before .before .before .before .before .before .before in
+    adds-first (adds-then (shape .before .before .before .before .before .put .ensures)
+    (adds-then (shape .put-shape .ensures) (adds-then (c .before .before .before .before .before .before .before .put-bytes .ensures) (c .before .before .put-figures .ensures)))) .now-is
 
 pub write-record-spec : {M : Type 1} → statement M
 write-record-spec =
@@ -32,6 +35,6 @@ write-record-spec =
     put-requires
     put-shape-requires
     put-bytes-requires
-    put-three-requires
+    put-figures-requires
     same-length
     returns)

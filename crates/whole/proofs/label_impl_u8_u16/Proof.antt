@@ -1,37 +1,15 @@
--- `label_impl_u8_u16` meets its promise: it is refused with the number that its check finds, and else fed whole and numbered.
+-- `label_impl_u8_u16` meets its promise: a frame that is fed, or refused, and then numbered.
 -- Assumes nothing.
 use borrow.Author.Needs.{needs}
-use denote.Ref.{now}
-use Rattle.frame.specs.Kinds.{nz, u16}
-use Rattle.label.specs.Opening.{openRecord}
-use Rattle.whole.proofs.WholeLaws.{whole-refused, whole-ready, whole-fed, whole-done}
+use Rattle.whole.proofs.WholeLaws.{whole-fed, whole-frame}
 use Rattle.whole.proofs.label_impl_u8_u16.Statement.{statement}
 use Rattle.whole.proofs.label_impl_u8_u16.Tie as tie
 
-frame-check-requires : tie.Need-frame-check-requires
-frame-check-requires c κs = search needs
-
-enum-known-check : tie.Need-enum-known-check
-enum-known-check c = search needs
-
-enum-told : tie.Need-enum-told
-enum-told c = search needs
-
-feed-all-u8-requires : tie.Need-feed-all-u8-requires
-feed-all-u8-requires c κs =
-    let a = c .before .before .before .before .before .before .before .before .before .before .args in
-    record { shape = now (a .shape); ready = whole-ready u16 nz (now (a .shape)) (now (a .structure)) (now (a .words)) (now (a .cells)) (now (a .out)) _ (c .before .before .before .before .frame-check .ensures) (c .before .before .enum-told .given .1) }
+feed-frame-u8-requires : tie.Need-feed-frame-u8-requires
+feed-frame-u8-requires c κs = search needs
 
 number-u16-requires : tie.Need-number-u16-requires
-number-u16-requires c κs =
-    let a = c .before .before .before .before .before .before .before .before .before .before .before .before .before .before .before .args in
-    let all = c .before .before .before .before .feed-all-u8 .ensures (now (a .shape)) (whole-ready u16 nz (now (a .shape)) (now (a .structure)) (now (a .words)) (now (a .cells)) (now (a .out)) _ (c .before .before .before .before .before .before .before .before .before .frame-check .ensures) (c .before .before .before .before .before .before .before .enum-told .given .1)) in
-    record { session = openRecord (now (a .shape)) (now (a .structure)); fed = whole-fed u16 nz (now (a .shape)) (now (a .structure)) (now (a .words)) (now (a .cells)) (now (a .out)) _ (c .before .before .before .before .before .before .before .before .before .frame-check .ensures) (c .before .before .before .before .before .before .before .enum-told .given .1) _ _ all }
-
-returns : tie.Need-returns
-returns c =
-    let a = c .before .before .before .before .before .before .before .before .before .args in
-    whole-refused u16 nz (now (a .shape)) (now (a .structure)) (now (a .words)) (now (a .cells)) (now (a .out)) _ (c .before .before .before .frame-check .ensures) _ (c .before .check .given .1)
+number-u16-requires c κs = whole-fed (c .before .before .before .before .feed-frame-u8 .ensures)
 
 same-length : tie.Need-same-length
 same-length c = search needs
@@ -39,25 +17,10 @@ same-length c = search needs
 same-length-2 : tie.Need-same-length-2
 same-length-2 c = search needs
 
-returns-2 : tie.Need-returns-2
-returns-2 c =
-    let a = c .before .before .before .before .before .before .before .before .before .before .before .before .before .before .before .before .before .before .before .before .args in
-    let found = c .before .before .before .before .before .before .before .before .before .before .before .before .before .before .frame-check .ensures in
-    let passed = c .before .before .before .before .before .before .before .before .before .before .before .before .enum-told .given .1 in
-    let all = c .before .before .before .before .before .before .before .before .before .feed-all-u8 .ensures (now (a .shape)) (whole-ready u16 nz (now (a .shape)) (now (a .structure)) (now (a .words)) (now (a .cells)) (now (a .out)) _ found passed) in
-    let record-is = openRecord (now (a .shape)) (now (a .structure)) in
-    whole-done u16 nz (now (a .shape)) (now (a .structure)) (now (a .words)) (now (a .cells)) (now (a .out)) _ found passed _ _ all _ _ _ (c .before .before .before .before .number-u16 .ensures record-is (whole-fed u16 nz (now (a .shape)) (now (a .structure)) (now (a .words)) (now (a .cells)) (now (a .out)) _ found passed _ _ all))
+returns : tie.Need-returns
+returns c =
+    let n = c .before .before .before .before in
+    whole-frame (n .before .before .before .before .before .feed-frame-u8 .ensures) (n .number-u16 .ensures)
 
 pub label-impl-u8-u16-spec : {M : Type 1} → statement M
-label-impl-u8-u16-spec =
-    tie.close
-    (tie.spec
-    frame-check-requires
-    enum-known-check
-    enum-told
-    feed-all-u8-requires
-    number-u16-requires
-    returns
-    same-length
-    same-length-2
-    returns-2)
+label-impl-u8-u16-spec = tie.close (tie.spec feed-frame-u8-requires number-u16-requires same-length same-length-2 returns)

@@ -1,12 +1,10 @@
--- `number_u32` meets its contract: n above the kind's largest is refused, and else the numbers are those that a reading promises.
+-- `number_u32` meets its contract: a refusal is passed on, n above the kind's largest is refused, and else the numbers are a reading's.
 -- Assumes nothing.
-use borrow.Author.Needs.{needs}
 use mathlib.Core.Path.{_≡_, refl}
 use Prim.Native.Nat.{ℕ}
-use denote.Ref.{now}
-use lib.ListN.{length}
+use borrow.Author.Needs.{needs}
 use Rattle.frame.specs.Kinds.{u32, largest}
-use Rattle.whole.proofs.NumberingLaws.{fed-joins, number-ready, number-ten, number-done}
+use Rattle.whole.proofs.NumberingLaws.{number-refused, number-joins, number-ready, number-ten, number-done}
 use Rattle.whole.proofs.number_u32.Statement.{statement}
 use Rattle.whole.proofs.number_u32.Tie as tie
 
@@ -15,16 +13,26 @@ most : _≡_ {A = ℕ} 4294967295 (largest u32)
 unfolding largest
 most = refl
 
-sub-n : tie.Need-sub-n
-sub-n c = let s = c .before .before .before in fed-joins (s .pre .session) (s .args .g) (s .args .frame) (now (s .args .words)) (length (now (s .args .out))) (s .pre .fed)
+enum-known-check : tie.Need-enum-known-check
+enum-known-check c = search needs
 
 returns : tie.Need-returns
-returns c = let a = c .before .before .before .before .args in λ s F. number-ten s (a .g) (a .frame) (now (a .words)) u32 (now (a .out)) F (rw (← most) (c .if1 .taken))
+returns c = number-refused u32 _ (c .before .check .given .1)
+
+enum-told : tie.Need-enum-told
+enum-told c = search needs
+
+sub-n : tie.Need-sub-n
+sub-n c = let t = c .before .before .before in number-joins (t .enum-told .given .1) (t .before .before .before .before .before .pre)
+
+returns-2 : tie.Need-returns-2
+returns-2 c = number-ten (c .before .before .before .before .enum-told .given .1) u32 (rw (← most) (c .if1 .taken))
 
 write-block-u32-requires : tie.Need-write-block-u32-requires
 write-block-u32-requires c κs =
-    let s = c .before .before .before .before .before .before in
-    number-ready (s .pre .session) (s .args .g) (s .args .frame) (now (s .args .words)) (length (now (s .args .out))) (s .pre .fed) u32 (rw (← most) (c .before .before .if1 .left))
+    let i = c .before .before in
+    let t = i .before .before .before .before in
+    number-ready (t .enum-told .given .1) (t .before .before .before .before .before .pre) u32 (rw (← most) (i .if1 .left))
 
 same-length : tie.Need-same-length
 same-length c = search needs
@@ -32,12 +40,13 @@ same-length c = search needs
 same-length-2 : tie.Need-same-length-2
 same-length-2 c = search needs
 
-returns-2 : tie.Need-returns-2
-returns-2 c =
-    let a = c .before .before .before .before .before .before .before .before .before .before .before .args in
-    let w = c .before .before .before .before .write-block-u32 in
-    λ s F. number-done s (a .g) (a .frame) (now (a .words)) u32 (now (a .out)) F (rw (← most) (c .before .before .before .before .before .before .before .if1 .left)) (w .last .0) (w .last .1 .1 .1 .0) (w .ensures)
+returns-3 : tie.Need-returns-3
+returns-3 c =
+    let x = c .before .before .before .before in
+    let i = x .before .before .before in
+    number-done (i .before .before .before .before .enum-told .given .1) u32 (rw (← most) (i .if1 .left)) (x .write-block-u32 .ensures)
 
 pub number-u32-spec : {M : Type 1} → statement M
 number-u32-spec =
-    tie.close (tie.spec sub-n returns write-block-u32-requires same-length same-length-2 returns-2)
+    tie.close
+    (tie.spec enum-known-check returns enum-told sub-n returns-2 write-block-u32-requires same-length same-length-2 returns-3)

@@ -3,19 +3,20 @@
 use Prim.Native.Nat.{_+_, _≤_, _-_}
 use native.Mathlib.Omega.{arith}
 use borrow.Author.Needs.{needs}
+use Rattle.frame.specs.Kinds.{u16}
 use Rattle.write.specs.Steps.{Filled}
 use Rattle.write.proofs.PaintLaws.{filled-none, filled-more, filled-end}
 use Rattle.write.proofs.eight_u16.Statement.{statement}
 use Rattle.write.proofs.eight_u16.Tie as tie
 
 abbrev Inv-loop : tie.InvT-loop
-Inv-loop out₀ x v i₀ out i = (i ≤ 8) × Filled x (x + i) v out₀ out
+Inv-loop out₀ x v i₀ out i = (i ≤ 8) × Filled u16 x (x + i) v out₀ out
 
 abbrev μ-loop : tie.MeasureT-loop
 μ-loop out₀ x v i₀ out i = 8 - i
 
 loop-holds : tie.Need-loop-holds Inv-loop μ-loop
-loop-holds c = (omega arith, filled-none _ _ _ _ (omega arith))
+loop-holds c = (omega arith, filled-none u16 _ _ _ _ (omega arith))
 
 add-out : tie.Need-add-out Inv-loop μ-loop
 add-out c = record { fits = omega (arith, c .before .before .pre) }
@@ -33,13 +34,13 @@ loop-less : tie.Need-loop-less Inv-loop μ-loop
 loop-less c = search needs
 
 loop-again : tie.Need-loop-again Inv-loop μ-loop
-loop-again c = (omega arith, filled-more (c .before .loop .inv .1) _ (omega arith) (omega arith) (omega arith))
+loop-again c = (omega arith, filled-more u16 (c .before .loop .inv .1) _ (omega arith) (omega arith) (omega arith))
 
 same-length : tie.Need-same-length Inv-loop μ-loop
 same-length c = c .before .loop .inv .1 .long
 
 returns : tie.Need-returns Inv-loop μ-loop
-returns c = filled-end (c .before .loop .inv .1) _ (omega arith) (omega arith)
+returns c = filled-end u16 (c .before .loop .inv .1) _ (omega arith) (omega arith)
 
 pub eight-u16-spec : {M : Type 1} → statement M
 eight-u16-spec =

@@ -5,19 +5,20 @@ use mathlib.Core.Path.{refl}
 use native.Mathlib.Nat.{le-refl}
 use native.Mathlib.Omega.{arith}
 use borrow.Author.Needs.{needs}
+use Rattle.frame.specs.Kinds.{u16}
 use Rattle.write.specs.Steps.{Filled}
 use Rattle.write.proofs.PaintLaws.{filled-none, filled-more, filled-end}
 use Rattle.write.proofs.fill_u16.Statement.{statement}
 use Rattle.write.proofs.fill_u16.Tie as tie
 
 abbrev Inv-loop : tie.InvT-loop
-Inv-loop out₀ a e v x₀ out x = (a ≤ x) × ((x ≤ max a e) × Filled a x v out₀ out)
+Inv-loop out₀ a e v x₀ out x = (a ≤ x) × ((x ≤ max a e) × Filled u16 a x v out₀ out)
 
 abbrev μ-loop : tie.MeasureT-loop
 μ-loop out₀ a e v x₀ out x = e - x
 
 loop-holds : tie.Need-loop-holds Inv-loop μ-loop
-loop-holds c = (omega arith, (omega arith, filled-none _ _ _ _ (le-refl _)))
+loop-holds c = (omega arith, (omega arith, filled-none u16 _ _ _ _ (le-refl _)))
 
 mul-out : tie.Need-mul-out Inv-loop μ-loop
 mul-out c = search needs
@@ -34,13 +35,13 @@ loop-less c = search needs
 loop-again : tie.Need-loop-again Inv-loop μ-loop
 loop-again c =
     let l = c .before .loop .inv in
-    (omega arith, (omega arith, filled-more (l .1 .1) _ refl (l .0) (omega arith)))
+    (omega arith, (omega arith, filled-more u16 (l .1 .1) _ refl (l .0) (omega arith)))
 
 same-length : tie.Need-same-length Inv-loop μ-loop
 same-length c = c .before .loop .inv .1 .1 .long
 
 returns : tie.Need-returns Inv-loop μ-loop
-returns c = let l = c .before .loop .inv in filled-end (l .1 .1) _ (l .1 .0) (omega arith)
+returns c = let l = c .before .loop .inv in filled-end u16 (l .1 .1) _ (l .1 .0) (omega arith)
 
 pub fill-u16-spec : {M : Type 1} → statement M
 fill-u16-spec = tie.close (tie.spec Inv-loop μ-loop loop-holds mul-out slice-write-out add-x loop-less loop-again same-length returns)

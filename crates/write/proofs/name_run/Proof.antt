@@ -10,18 +10,6 @@ use Rattle.write.proofs.name_run.Tie as tie
 word-requires : tie.Need-word-requires
 word-requires c κs = search needs
 
-cast-start : tie.Need-cast-start
-cast-start c = search needs
-
-word-requires-2 : tie.Need-word-requires-2
-word-requires-2 c κs = search needs
-
-cast-end : tie.Need-cast-end
-cast-end c = search needs
-
-word-requires-3 : tie.Need-word-requires-3
-word-requires-3 c κs = search needs
-
 cast-up : tie.Need-cast-up
 cast-up c = search needs
 
@@ -38,7 +26,7 @@ add-at-3 : tie.Need-add-at-3
 add-at-3 c = search needs
 
 add-words : tie.Need-add-words
-add-words c = record { fits = omega (arith, count-low (c .before .before .before .before .before .before .before .pre)) }
+add-words c = record { fits = omega (arith, count-low (c .before .before .before .pre)) }
 
 mul-words : tie.Need-mul-words
 mul-words c = search needs
@@ -46,10 +34,10 @@ mul-words c = search needs
 slice-write-words : tie.Need-slice-write-words
 slice-write-words c = search needs
 
-word-requires-4 : tie.Need-word-requires-4
-word-requires-4 c κs =
-    let s = c .before .before .before .before .before .before .before .before in
-    (omega arith, simp length-set (omega (arith, parent-low (s .pre) (c .before .word3 .ensures))))
+word-requires-2 : tie.Need-word-requires-2
+word-requires-2 c κs =
+    let s = c .before .before .before .before in
+    (omega arith, simp length-set (omega (arith, parent-low (s .pre) (c .before .word .ensures))))
 
 mul-words-2 : tie.Need-mul-words-2
 mul-words-2 c = search needs
@@ -57,13 +45,13 @@ mul-words-2 c = search needs
 slice-write-words-2 : tie.Need-slice-write-words-2
 slice-write-words-2 c = simp length-set (omega arith)
 
-cast-roots : tie.Need-cast-roots
-cast-roots c = search needs
+cast-result : tie.Need-cast-result
+cast-result c = search needs
 
-add-roots : tie.Need-add-roots
-add-roots c =
+add-result : tie.Need-add-result
+add-result c =
     let p = c .before .before in
-    record { fits = count-fits (p .before .before .before .before .before .before .before .pre) (p .word3 .ensures) }
+    record { fits = count-fits (p .before .before .before .pre) (p .word .ensures) }
 
 same-length : tie.Need-same-length
 same-length c = search needs
@@ -71,18 +59,13 @@ same-length c = search needs
 returns : tie.Need-returns
 returns c =
     let p = c .before .before in
-    name-turn (p .before .before .before .before .before .before .before .pre) (p .word3 .ensures)
-    (p .before .before .before .before .word .ensures) (p .before .before .word2 .ensures) (c .word4 .ensures)
+    name-turn (p .before .before .before .pre) (p .word .ensures) (c .word2 .ensures)
 
 pub name-run-spec : {M : Type 1} → statement M
 name-run-spec =
     tie.close
     (tie.spec
     word-requires
-    cast-start
-    word-requires-2
-    cast-end
-    word-requires-3
     cast-up
     add-at
     mul-at
@@ -91,10 +74,10 @@ name-run-spec =
     add-words
     mul-words
     slice-write-words
-    word-requires-4
+    word-requires-2
     mul-words-2
     slice-write-words-2
-    cast-roots
-    add-roots
+    cast-result
+    add-result
     same-length
     returns)

@@ -5,7 +5,8 @@ use Prim.Native.Nat.{_-_}
 use native.Mathlib.Omega.{arith}
 use borrow.Author.Needs.{needs}
 use Rattle.write.proofs.NameLaws.{now-long}
-use Rattle.write.proofs.SizeLaws.{SizesTo, sizes-begin, size-asked, size-place, size-upward, size-fits, size-turn, sizes-done}
+use Rattle.write.proofs.SizeLaws.{SizesTo, sizes-begin, size-asked, size-words, sizes-done}
+use Rattle.write.proofs.SizeLaws.{size-place, size-upward, size-fits, size-turn}
 use Rattle.write.proofs.size_block.Statement.{statement}
 use Rattle.write.proofs.size_block.Tie as tie
 
@@ -22,55 +23,71 @@ loop-holds : tie.Need-loop-holds Inv-loop μ-loop
 loop-holds c = sizes-begin (c .before .before .before .before .before .before .pre) refl (c .before .before .fill-u32 .ensures)
 
 name-run-requires : tie.Need-name-run-requires Inv-loop μ-loop
-name-run-requires c κs =
-    let i = c .before in
-    let s = i .before .before .before .before .before .before .before .before in
-    size-asked (s .pre) (i .before .loop .inv) (i .loop-test .taken)
+name-run-requires c κs = let i = c .before in size-asked (i .before .loop .inv) (i .loop-test .taken)
+
+word-requires : tie.Need-word-requires Inv-loop μ-loop
+word-requires c κs =
+    let n = c .before .before .before in
+    let i = n .before .before in
+    (omega arith, size-words (i .before .loop .inv) (i .loop-test .taken) (n .name-run .ensures))
+
+word-requires-2 : tie.Need-word-requires-2 Inv-loop μ-loop
+word-requires-2 c κs =
+    let n = c .before .before .before .before .before in
+    let i = n .before .before in
+    (omega arith, size-words (i .before .loop .inv) (i .loop-test .taken) (n .name-run .ensures))
+
+word-requires-3 : tie.Need-word-requires-3 Inv-loop μ-loop
+word-requires-3 c κs =
+    let n = c .before .before .before .before .before .before .before in
+    let i = n .before .before in
+    (omega arith, size-words (i .before .loop .inv) (i .loop-test .taken) (n .name-run .ensures))
 
 sub-sizes : tie.Need-sub-sizes Inv-loop μ-loop
 sub-sizes c =
-    let n = c .before .before .before in
+    let w = c in
+    let n = w .before .before .before .before .before .before .before .before in
     let i = n .before .before in
-    let s = i .before .before .before .before .before .before .before .before in
-    size-upward (s .pre) (i .before .loop .inv) (i .loop-test .taken) (n .name-run .ensures)
+    size-upward (i .before .loop .inv) (i .loop-test .taken) (n .name-run .ensures)
+    (w .word3 .ensures) (w .before .before .before .before .word .ensures) (w .before .before .word2 .ensures)
 
 cast-sizes : tie.Need-cast-sizes Inv-loop μ-loop
-cast-sizes c =
-    let n = c .before .before .before in
-    let i = n .before .before in
-    let s = i .before .before .before .before .before .before .before .before in
-    omega (arith, size-fits (s .pre) (i .before .loop .inv) (i .loop-test .taken) (n .name-run .ensures))
-
-cast-sizes-2 : tie.Need-cast-sizes-2 Inv-loop μ-loop
-cast-sizes-2 c = search needs
+cast-sizes c = search needs
 
 sub-sizes-2 : tie.Need-sub-sizes-2 Inv-loop μ-loop
 sub-sizes-2 c =
-    let n = c .before .before .before .before in
+    let w = c in
+    let n = w .before .before .before .before .before .before .before .before in
     let i = n .before .before in
-    let s = i .before .before .before .before .before .before .before .before in
-    size-place (s .pre) (i .before .loop .inv) (i .loop-test .taken) (n .name-run .ensures) .0
+    size-place (i .before .loop .inv) (i .loop-test .taken) (n .name-run .ensures)
+    (w .word3 .ensures) (w .before .before .before .before .word .ensures) (w .before .before .word2 .ensures) .0
 
 mul-sizes : tie.Need-mul-sizes Inv-loop μ-loop
 mul-sizes c =
-    let n = c .before .before .before .before in
+    let w = c in
+    let n = w .before .before .before .before .before .before .before .before in
     let i = n .before .before in
-    let s = i .before .before .before .before .before .before .before .before in
-    record { fits = omega (arith, size-place (s .pre) (i .before .loop .inv) (i .loop-test .taken) (n .name-run .ensures)) }
+    let place = size-place (i .before .loop .inv) (i .loop-test .taken) (n .name-run .ensures)
+    (w .word3 .ensures) (w .before .before .before .before .word .ensures) (w .before .before .word2 .ensures) in
+    record { fits = omega (arith, place) }
 
 slice-read-sizes : tie.Need-slice-read-sizes Inv-loop μ-loop
 slice-read-sizes c =
-    let n = c .before .before .before .before .before in
+    let w = c .before in
+    let n = w .before .before .before .before .before .before .before .before in
     let i = n .before .before in
-    let s = i .before .before .before .before .before .before .before .before in
-    size-place (s .pre) (i .before .loop .inv) (i .loop-test .taken) (n .name-run .ensures) .1
+    size-place (i .before .loop .inv) (i .loop-test .taken) (n .name-run .ensures)
+    (w .word3 .ensures) (w .before .before .before .before .word .ensures) (w .before .before .word2 .ensures) .1
 
 add-sizes : tie.Need-add-sizes Inv-loop μ-loop
 add-sizes c =
-    let n = c .before .before .before .before .before in
+    let w = c .before in
+    let n = w .before .before .before .before .before .before .before .before in
     let i = n .before .before in
-    let s = i .before .before .before .before .before .before .before .before in
-    record { fits = size-fits (s .pre) (i .before .loop .inv) (i .loop-test .taken) (n .name-run .ensures) }
+    record {
+      fits = size-fits (i .before .loop .inv) (i .loop-test .taken) (n .name-run .ensures)
+          (w .word3 .ensures) (w .before .before .before .before .word .ensures) (w .before .before .word2 .ensures);
+    }
 
 slice-write-sizes : tie.Need-slice-write-sizes Inv-loop μ-loop
 slice-write-sizes c = slice-read-sizes c
@@ -83,10 +100,11 @@ loop-less c = search needs
 
 loop-again : tie.Need-loop-again Inv-loop μ-loop
 loop-again c =
-    let n = c .before .before .before .before .before in
+    let w = c .before in
+    let n = w .before .before .before .before .before .before .before .before in
     let i = n .before .before in
-    let s = i .before .before .before .before .before .before .before .before in
-    size-turn (s .pre) (i .before .loop .inv) (i .loop-test .taken) (n .name-run .ensures)
+    size-turn (i .before .loop .inv) (i .loop-test .taken) (n .name-run .ensures)
+    (w .word3 .ensures) (w .before .before .before .before .word .ensures) (w .before .before .word2 .ensures)
 
 same-length : tie.Need-same-length Inv-loop μ-loop
 same-length c = now-long (c .before .loop .inv .names)
@@ -95,8 +113,7 @@ same-length-2 : tie.Need-same-length-2 Inv-loop μ-loop
 same-length-2 c = c .before .loop .inv .long
 
 returns : tie.Need-returns Inv-loop μ-loop
-returns c =
-    sizes-done (c .before .before .before .before .before .before .before .before .pre) (c .before .loop .inv) refl (c .loop-test .left)
+returns c = sizes-done (c .before .loop .inv) refl (c .loop-test .left)
 
 pub size-block-spec : {M : Type 1} → statement M
 size-block-spec =
@@ -107,9 +124,11 @@ size-block-spec =
     fill-u32-requires
     loop-holds
     name-run-requires
+    word-requires
+    word-requires-2
+    word-requires-3
     sub-sizes
     cast-sizes
-    cast-sizes-2
     sub-sizes-2
     mul-sizes
     slice-read-sizes

@@ -1,6 +1,6 @@
 //! One frame, given to both.
 
-use crate::ours::{Labels, Reads};
+use crate::ours::{ANSWER, Labels, Reads};
 use drivers::frames::{Frame, below, lines, size};
 use drivers::kinds::{Cell, Number};
 use drivers::lent::Lent;
@@ -71,7 +71,7 @@ impl<N: Reads> Ours<N> {
         let room = words_needed(&f.shape, &f.structure) + below(r, 3);
         let mut words = Lent::new(room, || r.next() as u32);
         let mut out = Lent::new(size(&f.shape), || N::filled(r));
-        let places = 4 + below(r, 2);
+        let places = ANSWER + below(r, 2);
         let mut answer = Lent::new(places, || r.next());
         // SAFETY: each pointer is good for its count
         let number = unsafe {

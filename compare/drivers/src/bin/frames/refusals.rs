@@ -2,7 +2,7 @@
 //! arguments is counted; where document 01 says that it declines, it must.
 
 use crate::one::{Fault, compare, theirs};
-use crate::ours::{Labels, Reads, label_open};
+use crate::ours::{ANSWER, Labels, Reads, label_open};
 use crate::THREADS;
 use drivers::frames::{Frame, below, lines, size};
 use drivers::lent::Lent;
@@ -88,7 +88,7 @@ fn damaged<C: Labels<N>, N: Reads>(t: &mut Tally, r: &mut Random, rank: usize, t
     }
     let n = size(&f.shape);
     let room = words_needed(&f.shape, &f.structure);
-    let whole = || Call { shape: &f.shape, structure: &f.structure, cells: &f.cells, places: n, room, answer: 4 };
+    let whole = || Call { shape: &f.shape, structure: &f.structure, cells: &f.cells, places: n, room, answer: ANSWER };
     let (mut more_bytes, mut more_cells) = (f.structure.clone(), f.cells.clone());
     more_bytes.push(1);
     more_cells.push(C::coded(b'1'));
@@ -101,7 +101,7 @@ fn damaged<C: Labels<N>, N: Reads>(t: &mut Tally, r: &mut Random, rank: usize, t
     Call { places: n - 1, ..whole() }.hold::<N>(t, r, threads, "output one short", 9, "");
     Call { places: n + 1, ..whole() }.hold::<N>(t, r, threads, "output one too long", 9, "");
     Call { room: room - 1, ..whole() }.hold::<N>(t, r, threads, "words one short", 5, "");
-    Call { answer: 3, ..whole() }.hold::<N>(t, r, threads, "answer of three words", 100, "");
+    Call { answer: ANSWER - 1, ..whole() }.hold::<N>(t, r, threads, "answer of seven words", 100, "");
     Call { shape: &[], ..whole() }.hold::<N>(t, r, threads, "rank 0", 1, "panics");
     let five: Vec<usize> = [&vec![1; 5 - rank][..], &f.shape].concat();
     Call { shape: &five, structure: &[1; 243], ..whole() }.hold::<N>(t, r, threads, "rank 5", 1, "answers");
@@ -164,7 +164,7 @@ fn limits(t: &mut Tally, r: &mut Random) {
             t.add("refused calls", "a shape at the limits: not run, no memory for it:", 1);
             continue;
         };
-        let call = Call { shape, structure: &structure, cells: &cells, places: 0, room: 1, answer: 4 };
+        let call = Call { shape, structure: &structure, cells: &cells, places: 0, room: 1, answer: ANSWER };
         let (number, stands) = call.ours::<u8>(r);
         let none = reference::label_impl(shape, &structure, &cells, &mut out, 1).is_none();
         t.add("refused calls", format!("a shape at the limits: ours {number}, the Rust {}:", if none { "declines" } else { "answers" }), 1);
@@ -175,7 +175,7 @@ fn limits(t: &mut Tally, r: &mut Random) {
     let below: [&[usize]; 4] = [&[2147483646], &[4294967292, 1], &[2, 2147483646], &[3, 4, 357913941]];
     for shape in below {
         let structure = vec![1u8; 3usize.pow(shape.len() as u32)];
-        let (number, stands) = Call::<u8> { shape, structure: &structure, cells: &[], places: 0, room: 1, answer: 4 }.ours::<u8>(r);
+        let (number, stands) = Call::<u8> { shape, structure: &structure, cells: &[], places: 0, room: 1, answer: ANSWER }.ours::<u8>(r);
         t.add("refused calls", format!("a shape below the limits, with one word: ours {number}, the Rust not run:"), 1);
         if number != 5 || !stands {
             t.differs(|| format!("shape {shape:?}: ours returns {number} (should be 5; all stands: {stands})"));
@@ -196,7 +196,7 @@ fn products(t: &mut Tally, r: &mut Random) {
     ];
     for (shape, want) in cases {
         let structure = vec![1u8; 3usize.pow(shape.len() as u32)];
-        let (number, stands) = Call::<u8> { shape, structure: &structure, cells: &[], places: 0, room: 1, answer: 4 }.ours::<u8>(r);
+        let (number, stands) = Call::<u8> { shape, structure: &structure, cells: &[], places: 0, room: 1, answer: ANSWER }.ours::<u8>(r);
         t.add("refused calls", format!("a product that does not fit: ours {number}, the Rust not run:"), 1);
         if number != want || !stands {
             t.differs(|| format!("shape {shape:?}: ours returns {number} (should be {want}; all stands: {stands})"));

@@ -2,7 +2,7 @@
 //! fed, its other lines zero.
 
 use crate::one::Fault;
-use crate::ours::{Fed, Reads, label_open, label_record_words, label_sizes};
+use crate::ours::{ANSWER, Fed, Reads, label_open, label_record_words, label_sizes};
 use drivers::frames::{below, cells, lines, shape, size, structure};
 use drivers::kinds::Cell;
 use drivers::lent::Lent;
@@ -120,7 +120,7 @@ impl Session {
             _ => {}
         }
         let cells: Vec<C> = cells(r, count);
-        let places = 4 + below(r, 2);
+        let places = ANSWER + below(r, 2);
         let mut answer = Lent::new(places, || r.next());
         self.calls.push(format!("feed of {k} lines, {count} {} cells", C::NAME));
         // SAFETY: each pointer is good for its count
@@ -145,7 +145,7 @@ impl Session {
             _ => {}
         }
         let mut out = Lent::new(places, || N::filled(r));
-        let length = 4 + below(r, 2);
+        let length = ANSWER + below(r, 2);
         let mut answer = Lent::new(length, || r.next());
         self.calls.push(format!("reading of {places} places, {}", N::NAME));
         // SAFETY: each pointer is good for its count
@@ -172,10 +172,10 @@ impl Session {
             _ => {}
         }
         let mut sizes = Lent::new(places, || r.next() as u32);
-        let mut answer = Lent::new(4, || r.next());
+        let mut answer = Lent::new(ANSWER, || r.next());
         self.calls.push(format!("sizes of {places} numbers"));
         // SAFETY: each pointer is good for its count
-        let number = unsafe { label_sizes(self.record.pointer(), self.record.len(), self.words.pointer(), self.words.len(), sizes.pointer(), places, answer.pointer(), 4) };
+        let number = unsafe { label_sizes(self.record.pointer(), self.record.len(), self.words.pointer(), self.words.len(), sizes.pointer(), places, answer.pointer(), ANSWER) };
         let mut of = vec![0u32; self.n as usize + 1];
         self.labels.iter().for_each(|&l| of[l as usize] += 1);
         must(sizes.edges_stand() && if want == 0 { sizes.now() == &of[1..] } else { sizes.stands() }, || "the sizes are not those of the Rust's groups".into())?;
@@ -185,9 +185,9 @@ impl Session {
 
     /// Calls that are refused whatever the session holds: a short record, a short answer, a record of words that no call leaves.
     fn damaged(&mut self, r: &mut Random) -> Held {
-        let (mut record, mut want, mut places) = (self.record.now().to_vec(), 6, 4);
+        let (mut record, mut want, mut places) = (self.record.now().to_vec(), 6, ANSWER);
         match below(r, 7) {
-            0 => (places, want) = (below(r, 4), 100),
+            0 => (places, want) = (below(r, ANSWER), 100),
             1 => {
                 record.truncate(88 - below(r, 88));
                 want = 100;
