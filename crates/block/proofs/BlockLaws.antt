@@ -56,19 +56,29 @@ module _ (left : Bool) (w L fed runs : ℕ) (flags : List Bool) where
   unfolding linesRuns
   all-suc i = gather-snoc here 0 i ∙ ap (λ (x : ℕ). all i ++ here x) (zero-add i)
 
-  count-suc : (i : ℕ) → length (linesRuns left w flags (suc i)) ≡ length (linesRuns left w flags i) + length (lineRuns left (lineOf w flags i))
+  count-suc : (i : ℕ)
+      → length (linesRuns left w flags (suc i)) ≡ length (linesRuns left w flags i) + length (lineRuns left (lineOf w flags i))
   count-suc i = ap length (all-suc i) ∙ length-append (all i) (here i)
 
   count-rise : (i k : ℕ) → i ≤ k → length (linesRuns left w flags i) ≤ length (linesRuns left w flags k)
-  count-rise i k h = le-ind (λ k. length (all i) ≤ length (all k)) (le-refl (length (all i))) (λ k l below. omega (arith, below, count-suc k)) k h
+  count-rise i k h =
+      le-ind (λ k. length (all i) ≤ length (all k)) (le-refl (length (all i))) (λ k l below. omega (arith, below, count-suc k)) k h
 
   -- no line yet
   pub block-none : (ws : List ℕ) → Block left w L fed runs 0 flags ws ws runs
   unfolding linesRuns gather
-  block-none ws = record { counted = omega arith; long = refl; lined = λ i h. absurd (omega arith); ran = λ r h. absurd (omega arith); others = λ j a. refl }
+  block-none ws = record {
+    counted = omega arith;
+    long = refl;
+    lined = λ i h. absurd (omega arith);
+    ran = λ r h. absurd
+        (omega arith);
+    others = λ j a. refl;
+  }
 
   -- line i, after the lines before it
-  module _ (k : ℕ) (ws : List ℕ) (R : BlockRoom left w L fed runs k flags ws) (i : ℕ) (h : i < k) (now : List ℕ) (n : ℕ) (B : Block left w L fed runs i flags ws now n) where
+  module _ (k : ℕ) (ws : List ℕ) (R : BlockRoom left w L fed runs k flags ws) (i : ℕ) (h : i < k) (now : List ℕ) (n : ℕ)
+      (B : Block left w L fed runs i flags ws now n) where
     -- how many runs there are with it
     upto : n + length (here i) ≤ runs + length (all k)
     upto = omega (arith, B .counted, count-suc i, count-rise (suc i) k h)
@@ -107,7 +117,9 @@ module _ (left : Bool) (w L fed runs : ℕ) (flags : List Bool) where
               ∙ getD-set-same next (fed + i + 1) (n + m) 0 (omega (arith, extracted-long X, place-fits, R .within))
               ∙ count-now
               ∙ ap (λ (x : ℕ). runs + length (all (suc x))) (sym e)
-          go (no e) = word (fed + suc j) (λ q. omega arith) ∙ put-below (here i) now at (fed + suc j) (omega (arith, R .within)) ∙ B .lined j (omega arith)
+          go (no e) =
+              word (fed + suc j) (λ q. omega arith) ∙ put-below (here i) now at (fed + suc j) (omega (arith, R .within))
+              ∙ B .lined j (omega arith)
 
       -- a run of the lines before, and one of this line
       old-run : (r : ℕ) → r < length (all i) → storedRun L after (runs + r) ≡ getD (all i ++ here i) r none
@@ -120,13 +132,16 @@ module _ (left : Bool) (w L fed runs : ℕ) (flags : List Bool) where
           ∙ B .ran r l
           ∙ sym (List·getD-append (all i) (here i) none r l)
 
-      new-run : (q : ℕ) → q < length (here i) → storedRun L after (runs + (length (all i) + q)) ≡ getD (all i ++ here i) (length (all i) + q) none
+      new-run : (q : ℕ) → q < length (here i)
+          → storedRun L after (runs + (length (all i) + q)) ≡ getD (all i ++ here i) (length (all i) + q) none
       new-run q l =
           let s : startPlace L (runs + (length (all i) + q)) ≡ at + startAt q = omega (arith, B .counted) in
           let e : endPlace L (runs + (length (all i) + q)) ≡ at + endAt q = omega (arith, B .counted) in
           ap₂ (λ (x : ℕ) (y : ℕ). record { start = x; end = y })
-          (ap (λ (x : ℕ). getD after x 0) s ∙ word (at + startAt q) (λ z. omega (arith, R .within)) ∙ put-start (here i) now at q none l (line-room .room))
-          (ap (λ (x : ℕ). getD after x 0) e ∙ word (at + endAt q) (λ z. omega (arith, R .within)) ∙ put-end (here i) now at q none l (line-room .room))
+          (ap (λ (x : ℕ). getD after x 0) s ∙ word (at + startAt q) (λ z. omega (arith, R .within)) ∙ put-start (here i) now at q none l
+          (line-room .room))
+          (ap (λ (x : ℕ). getD after x 0) e ∙ word (at + endAt q) (λ z. omega (arith, R .within)) ∙ put-end (here i) now at q none l
+          (line-room .room))
           ∙ sym (getD-append-add (all i) (here i) q none)
 
       runs-then : (r : ℕ) → r < length (all (suc i)) → storedRun L after (runs + r) ≡ getD (all (suc i)) r none
@@ -137,15 +152,18 @@ module _ (left : Bool) (w L fed runs : ℕ) (flags : List Bool) where
           go false t =
               let ge = ltb-false r (length (all i)) t in
               let e : length (all i) + (r - length (all i)) ≡ r = omega arith in
-              subst (λ (x : ℕ). storedRun L after (runs + x) ≡ getD (all i ++ here i) x none) e (new-run (r - length (all i)) (omega (arith, count-suc i)))
+              subst (λ (x : ℕ). storedRun L after (runs + x) ≡ getD (all i ++ here i) x none) e
+              (new-run (r - length (all i)) (omega (arith, count-suc i)))
 
       others-stand : (j : ℕ) → Unwritten L fed runs (suc i) (length (all (suc i))) j → getD after j 0 ≡ getD ws j 0
       others-stand j A =
           word j (λ e. A .no-line i (le-refl (suc i)) (omega arith))
           ∙ put-other (here i) now at j
           (λ q l.
-          let u : length (all i) + q < length (all (suc i)) = omega (arith, count-suc i) in
-          ((λ e. A .no-start (length (all i) + q) u (omega (arith, B .counted))), (λ e. A .no-end (length (all i) + q) u (omega (arith, B .counted)))))
+          let u : length (all i) + q < length (all (suc i)) = omega (arith, count-suc i) in (
+            (λ e. A .no-start (length (all i) + q) u (omega (arith, B .counted))),
+            (λ e. A .no-end (length (all i) + q) u (omega (arith, B .counted))),
+          ))
           ∙ B .others j
           (record {
             no-line = λ x l. A .no-line x (omega arith);
@@ -156,24 +174,35 @@ module _ (left : Bool) (w L fed runs : ℕ) (flags : List Bool) where
       line-then : Block left w L fed runs (i + 1) flags ws (set next (fed + i + 1) (n + m)) (n + m)
       line-then =
           subst (λ (x : ℕ). Block left w L fed runs x flags ws after (n + m)) (sym (add-one i))
-          (record { counted = count-now; long = length-set next (fed + i + 1) (n + m) ∙ extracted-long X ∙ B .long; lined = starts; ran = runs-then; others = others-stand })
+          (record {
+            counted = count-now;
+            long = length-set next (fed + i + 1) (n + m) ∙ extracted-long X ∙ B .long;
+            lined = starts;
+            ran =
+                runs-then;
+            others = others-stand;
+          })
 
   -- the loop's end
-  pub block-end : (i k : ℕ) → i ≤ k → k ≤ i → {ws now : List ℕ} {n : ℕ} → Block left w L fed runs i flags ws now n → Block left w L fed runs k flags ws now n
+  pub block-end : (i k : ℕ) → i ≤ k → k ≤ i → {ws now : List ℕ} {n : ℕ} → Block left w L fed runs i flags ws now n
+      → Block left w L fed runs k flags ws now n
   block-end i k a b {ws} {now} {n} B = let e : i ≡ k = omega arith in subst (λ (x : ℕ). Block left w L fed runs x flags ws now n) e B
 
 -- ---- of cells of any kind, whose line i is lent as a part
 
-module _ {A : Type 0} (f : A → Bool) (cells : List A) (left : Bool) (w L fed runs k : ℕ) (ws : List ℕ) (R : BlockRoom left w L fed runs k (map f cells) ws) where
+module _ {A : Type 0} (f : A → Bool) (cells : List A) (left : Bool) (w L fed runs k : ℕ) (ws : List ℕ)
+    (R : BlockRoom left w L fed runs k (map f cells) ws) where
   -- the cells of line i are there
   pub cells-fit : (i : ℕ) → i < k → i * w + w ≤ length cells
   cells-fit i h = omega (arith, line-within i k w h, R .whole, length-map cells f)
 
   module _ (i : ℕ) (h : i < k) (now : List ℕ) (n : ℕ) (B : Block left w L fed runs i (map f cells) ws now n) where
     pub block-room : Room left (map f (midOf (i * w) (i * w + w - i * w) cells)) now (L + 1 + stride * n)
-    block-room = subst (λ (l : List Bool). Room left l now (L + 1 + stride * n)) (sym (line-flags f w i cells)) (line-room left w L fed runs (map f cells) k ws R i h now n B)
+    block-room = subst (λ (l : List Bool). Room left l now (L + 1 + stride * n)) (sym (line-flags f w i cells))
+        (line-room left w L fed runs (map f cells) k ws R i h now n B)
 
-    module _ (next : List ℕ) (m : ℕ) (X : Extracted left (map f (midOf (i * w) (i * w + w - i * w) cells)) now next (L + 1 + stride * n) m) where
+    module _ (next : List ℕ) (m : ℕ) (X : Extracted left (map f (midOf (i * w) (i * w + w - i * w) cells)) now next
+        (L + 1 + stride * n) m) where
       its : Extracted left (lineOf w (map f cells) i) now next (L + 1 + stride * n) m
       its = subst (λ (l : List Bool). Extracted left l now next (L + 1 + stride * n) m) (line-flags f w i cells) X
 

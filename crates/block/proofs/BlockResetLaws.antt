@@ -44,7 +44,8 @@ module _ (L : ℕ) (ws : List ℕ) (fed k : ℕ) (R : ResetReady L ws fed k) whe
       others = λ j o. go j o (ltb j (L + 1)) refl;
     }
       where
-        go : (j : ℕ) → ((r : ℕ) → lineStart ws fed ≤ r → r < lineStart ws (fed + k) → j ≢ parentPlace L r) → (t : Bool) → ltb j (L + 1) ≡ t → getD (take (L + 1) ws ++ p) j 0 ≡ getD ws j 0
+        go : (j : ℕ) → ((r : ℕ) → lineStart ws fed ≤ r → r < lineStart ws (fed + k) → j ≢ parentPlace L r) → (t : Bool) → ltb j (L + 1) ≡ t
+            → getD (take (L + 1) ws ++ p) j 0 ≡ getD ws j 0
         go j o true t = low j (ltb-true j (L + 1) t)
         go j o false t =
             let l = ltb-false j (L + 1) t in
@@ -62,7 +63,8 @@ module _ (L : ℕ) (ws ws′ : List ℕ) (fed k : ℕ) (X : ResetIn L ws ws′ f
   reset-start ℓ h = X .others ℓ (λ r a b e. omega arith)
 
   pub reset-runs : storedRun L ws′ ≡ storedRun L ws
-  reset-runs = fun-ext (λ r. ap₂ (λ (s : ℕ) (e : ℕ). record { start = s; end = e }) (X .others (startPlace L r) (λ x a b e. omega arith)) (X .others (endPlace L r) (λ x a b e. omega arith)))
+  reset-runs = fun-ext (λ r. ap₂ (λ (s : ℕ) (e : ℕ). record { start = s; end = e }) (X .others (startPlace L r) (λ x a b e. omega arith))
+      (X .others (endPlace L r) (λ x a b e. omega arith)))
 
   -- the same of the runs' words, as a part
   pub reset-part : Reset (drop (L + 1) ws) (drop (L + 1) ws′) (lineStart ws fed) (lineStart ws (fed + k))

@@ -47,8 +47,10 @@ module _ (g : Geo) (structure ws : List ℕ) (fed k : ℕ) (R : BlockReady (g .l
   block-idle e =
       let f : fed + k ≡ fed = omega arith in
       let same : b ≡ a = ap (lineStart ws) f in
-      let z : touchesFrom n dims L structure ws fed k ≡ [] = subst (λ (x : ℕ). touchesFrom n dims L structure ws fed x ≡ []) (sym e) (unfold touches gather in refl) in
-      let v : visit (touchesFrom n dims L structure ws fed k) (grouping (parentOf L ws) a) ≡ grouping (parentOf L ws) a = ap (λ (es : List Edge). visit es (grouping (parentOf L ws) a)) z ∙ (unfold visit in refl) in
+      let z : touchesFrom n dims L structure ws fed k ≡ [] = subst (λ (x : ℕ). touchesFrom n dims L structure ws fed x ≡ []) (sym e)
+      (unfold touches gather in refl) in
+      let v : visit (touchesFrom n dims L structure ws fed k) (grouping (parentOf L ws) a) ≡ grouping (parentOf L ws) a =
+      ap (λ (es : List Edge). visit es (grouping (parentOf L ws) a)) z ∙ (unfold visit in refl) in
       record {
         long = refl;
         others = λ j o. refl;
@@ -64,7 +66,8 @@ module _ (g : Geo) (structure ws : List ℕ) (fed k : ℕ) (R : BlockReady (g .l
     last = fed + k - 1
 
     end-start : lineStart ws′ (suc (fed + k - 1)) ≡ lineStart ws (fed + k)
-    end-start = let e : suc (fed + k - 1) ≡ fed + k = omega arith in ap (lineStart ws′) e ∙ reset-start L ws ws′ fed k X (fed + k) (R .within)
+    end-start =
+        let e : suc (fed + k - 1) ≡ fed + k = omega arith in ap (lineStart ws′) e ∙ reset-start L ws ws′ fed k X (fed + k) (R .within)
 
     low : (r : ℕ) → r < b → parentOf L ws′ r ≤ r
     low r h = go (ltb r a) refl
@@ -80,7 +83,11 @@ module _ (g : Geo) (structure ws : List ℕ) (fed k : ℕ) (R : BlockReady (g .l
       lines = record {
         within = omega (arith, R .within);
         room = omega (arith, end-start, X .long, R .room);
-        sorted = λ m h. rw (reset-start L ws ws′ fed k X m (omega (arith, R .within)), reset-start L ws ws′ fed k X (suc m) (omega (arith, R .within)), reset-runs L ws ws′ fed k X) (R .sorted m (omega arith));
+        sorted = λ m h. rw (
+          reset-start L ws ws′ fed k X m (omega (arith, R .within)),
+          reset-start L ws ws′ fed k X (suc m) (omega (arith, R .within)),
+          reset-runs L ws ws′ fed k X,
+        ) (R .sorted m (omega arith));
         parents = λ r h. low r (omega (arith, end-start));
       };
     }
@@ -97,36 +104,51 @@ module _ (g : Geo) (structure ws : List ℕ) (fed k : ℕ) (R : BlockReady (g .l
           starts-rise L ws′ last (reset-ready .lines) fed (suc last) (omega arith) (le-refl (suc last)),
         )
 
-    stands : Parents (drop (L + 1) ws′) b × ((r : ℕ) → rep (grouping (parentIn (drop (L + 1) ws′)) b) r ≡ rep (grouping (parentIn (drop (L + 1) ws)) a) r) × (joins (grouping (parentIn (drop (L + 1) ws′)) b) ≡ joins (grouping (parentIn (drop (L + 1) ws)) a))
+    stands : Parents (drop (L + 1) ws′) b × ((r : ℕ) → rep (grouping (parentIn (drop (L + 1) ws′)) b) r ≡ rep
+        (grouping (parentIn (drop (L + 1) ws)) a) r)
+        × (joins (grouping (parentIn (drop (L + 1) ws′)) b) ≡ joins (grouping (parentIn (drop (L + 1) ws)) a))
     stands =
         reset-grouping (drop (L + 1) ws) (drop (L + 1) ws′) a b
-        (record { room = omega (arith, length-drop (L + 1) ws, R .room, upto); low = λ r h. subst (λ (f : ℕ → ℕ). f r ≤ r) (sym (part-parents L ws)) (R .parents r h) })
+        (record {
+          room = omega (arith, length-drop (L + 1) ws, R .room, upto);
+          low = λ r h. subst (λ (f : ℕ → ℕ). f r ≤ r)
+              (sym (part-parents L ws)) (R .parents r h);
+        })
         (omega (arith, length-drop (L + 1) ws, R .room)) upto (reset-part L ws ws′ fed k X)
 
     same-rep : (r : ℕ) → rep (grouping (parentOf L ws′) b) r ≡ rep (grouping (parentOf L ws) a) r
-    same-rep r = subst (λ (f : ℕ → ℕ). rep (grouping f b) r ≡ rep (grouping (parentOf L ws) a) r) (part-parents L ws′) (subst (λ (f : ℕ → ℕ). rep (grouping (parentIn (drop (L + 1) ws′)) b) r ≡ rep (grouping f a) r) (part-parents L ws) (stands .1 r))
+    same-rep r = subst (λ (f : ℕ → ℕ). rep (grouping f b) r ≡ rep (grouping (parentOf L ws) a) r) (part-parents L ws′)
+        (subst (λ (f : ℕ → ℕ). rep (grouping (parentIn (drop (L + 1) ws′)) b) r ≡ rep (grouping f a) r) (part-parents L ws) (stands .1 r))
 
     -- all of them are united
-    module _ (three : length dims ≡ 3) (i : ℕ) (h : i ≤ k) (l : k ≤ i) (end : List ℕ) (t : ℕ) (G : Going n dims L structure ws′ fed (fed + k - 1) i end t) where
+    module _ (three : length dims ≡ 3) (i : ℕ) (h : i ≤ k) (l : k ≤ i) (end : List ℕ) (t : ℕ)
+        (G : Going n dims L structure ws′ fed (fed + k - 1) i end t) where
       es-same : touchesFrom n dims L structure ws′ fed i ≡ touchesFrom n dims L structure ws fed k
       es-same =
           let e : i ≡ k = omega arith in
           ap (touchesFrom n dims L structure ws′ fed) e
-          ∙ touches-stand (leadingOf n dims) structure (lineStart ws′) (lineStart ws) (storedRun L ws′) (storedRun L ws) L (reset-start L ws ws′ fed k X) (reset-runs L ws ws′ fed k X)
+          ∙ touches-stand (leadingOf n dims) structure (lineStart ws′) (lineStart ws) (storedRun L ws′) (storedRun L ws) L
+          (reset-start L ws ws′ fed k X) (reset-runs L ws ws′ fed k X)
           (omega (arith, leading-size n dims L (R .leading) three)) fed k (R .within)
 
       abbrev es : List Edge
       es = touchesFrom n dims L structure ws fed k
 
       E : UnitedIn L ws′ end b es t
-      E = subst (λ (x : ℕ). UnitedIn L ws′ end x es t) end-start (subst (λ (l : List Edge). UnitedIn L ws′ end (runsTo ws′ last) l t) es-same (G .united))
+      E = subst (λ (x : ℕ). UnitedIn L ws′ end x es t) end-start
+          (subst (λ (l : List Edge). UnitedIn L ws′ end (runsTo ws′ last) l t) es-same (G .united))
 
       pub block-united : BlockUnited n dims L structure ws end fed k t
       block-united = record {
         long = in-long L ws′ end b es t E (omega (arith, X .long, R .room)) ∙ X .long;
         others = λ j o. in-others L ws′ end b es t E j o ∙ X .others j (λ r c d. o r d);
         parents = in-parents L ws′ end b es t E;
-        grouped = λ r h. in-grouped L ws′ end b es t E r h ∙ rep-over es (grouping (parentOf L ws′) b) (grouping (parentOf L ws) a) same-rep r;
-        counted = omega (arith, in-counted L ws′ end b es t E, joins-over es (grouping (parentOf L ws′) b) (grouping (parentOf L ws) a) same-rep);
+        grouped =
+            λ r h. in-grouped L ws′ end b es t E r h ∙ rep-over es (grouping (parentOf L ws′) b) (grouping (parentOf L ws) a) same-rep r;
+        counted = omega (
+          arith,
+          in-counted L ws′ end b es t E,
+          joins-over es (grouping (parentOf L ws′) b) (grouping (parentOf L ws) a) same-rep,
+        );
         no-lines = λ e. absurd (omega arith);
       }

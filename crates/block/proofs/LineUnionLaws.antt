@@ -26,12 +26,14 @@ use Rattle.block.proofs.WideLaws.{united-wide}
 
 -- ---- touches, where the line starts and the runs are the same
 
-module _ (ds structure : List ℕ) (S Z : ℕ → ℕ) (R Q : ℕ → Run) (b : ℕ) (starts : (m : ℕ) → m ≤ b → S m ≡ Z m) (same : R ≡ Q) (within : b ≤ size ds) where
+module _ (ds structure : List ℕ) (S Z : ℕ → ℕ) (R Q : ℕ → Run) (b : ℕ) (starts : (m : ℕ) → m ≤ b → S m ≡ Z m) (same : R ≡ Q)
+    (within : b ≤ size ds) where
   line-stands : (ℓ : ℕ) → ℓ < b → touchesOf ds structure S R ℓ ≡ touchesOf ds structure Z Q ℓ
   unfolding touchesOf
   line-stands ℓ h =
       gather-same (touchesBy ds structure S R ℓ) (touchesBy ds structure Z Q ℓ) 0 (3 ^ length ds)
-      (λ k z v. by-same ds structure S Z R Q ℓ k (omega arith) (λ m q. starts m (omega arith)) (λ m r q lo hi. ap (λ (f : ℕ → Run). f r) same))
+      (λ k z v. by-same ds structure S Z R Q ℓ k (omega arith) (λ m q. starts m (omega arith))
+      (λ m r q lo hi. ap (λ (f : ℕ → Run). f r) same))
 
   pub touches-stand : (a n : ℕ) → a + n ≤ b → touches ds structure S R a n ≡ touches ds structure Z Q a n
   unfolding touches
@@ -42,7 +44,13 @@ module _ (ds structure : List ℕ) (S Z : ℕ → ℕ) (R Q : ℕ → Run) (b : 
 lines-fewer : (L : ℕ) (ws : List ℕ) (ℓ : ℕ) → LinesReady L ws ℓ → (m : ℕ) → m ≤ ℓ → LinesReady L ws m
 lines-fewer L ws ℓ R m h =
     let rise = starts-rise L ws ℓ R (suc m) (suc ℓ) (omega arith) (le-refl (suc ℓ)) in
-    record { within = omega (arith, R .within); room = omega (arith, R .room, rise); sorted = λ x l. R .sorted x (omega arith); parents = λ r l. R .parents r (omega (arith, rise)) }
+    record {
+      within = omega (arith, R .within);
+      room = omega (arith, R .room, rise);
+      sorted = λ x l. R .sorted x
+          (omega arith);
+      parents = λ r l. R .parents r (omega (arith, rise));
+    }
 
 -- of the lines from `fed` on up to line `last` the first i are united, and the runs of the others are their own parents
 pub record Going (n : ℕ) (dims : List ℕ) (L : ℕ) (structure ws : List ℕ) (fed last i : ℕ) (now : List ℕ) (t : ℕ) : Type 0 where
@@ -80,13 +88,25 @@ module _ (g : Geo) (structure ws : List ℕ) (fed last : ℕ) (R : LineReady g s
       ends-all (λ r. r < lineStart ws b) (of a m)
       (λ e i.
       let T = touches-from ds structure (lineStart ws) (storedRun L ws) a m (e .from) (e .to) i in
-      let x = nbr-earlier ds structure (T .line) (T .lead) (omega (arith, T .line-high, R .lines .within, size-is)) (T .is-used) (T .has-nbr) in
-      (omega (arith, T .r-high, rise (suc (T .line)) b (omega (arith, T .line-high)) l), omega (arith, T .s-high, rise (suc (nbrOf ds structure (lineStart ws) (storedRun L ws) (T .line) (T .lead))) b (omega (arith, x, T .line-high)) l)))
+      let x = nbr-earlier ds structure (T .line) (T .lead) (omega (arith, T .line-high, R .lines .within, size-is)) (T .is-used)
+      (T .has-nbr) in (
+        omega (arith, T .r-high, rise (suc (T .line)) b (omega (arith, T .line-high)) l),
+        omega (
+          arith,
+          T .s-high,
+          rise (suc (nbrOf ds structure (lineStart ws) (storedRun L ws) (T .line) (T .lead))) b (omega (arith, x, T .line-high)) l,
+        ),
+      ))
 
-  pub going-none : ((r : ℕ) → lineStart ws fed ≤ r → r < runsTo ws last → parentOf (g .lines) ws r ≡ r) → Going (g .leads) (g .dims) (g .lines) structure ws fed last 0 ws 0
+  pub going-none : ((r : ℕ) → lineStart ws fed ≤ r → r < runsTo ws last → parentOf (g .lines) ws r ≡ r)
+      → Going (g .leads) (g .dims) (g .lines) structure ws fed last 0 ws 0
   going-none own =
       let e : fed + 0 ≡ fed = omega arith in
-      record { united = unfold touches gather in in-none L ws last (R .lines); own = λ r a h. own r (subst (λ (x : ℕ). lineStart ws x ≤ r) e a) h }
+      record {
+        united = unfold touches gather in in-none L ws last (R .lines);
+        own = λ r a h. own r
+            (subst (λ (x : ℕ). lineStart ws x ≤ r) e a) h;
+      }
 
   module _ (i : ℕ) (h : fed + i ≤ suc last) (now : List ℕ) (t : ℕ) (G : Going n dims L structure ws fed last i now t) where
     ends : Ends (λ r. r < N) (of fed i)
@@ -109,7 +129,8 @@ module _ (g : Geo) (structure ws : List ℕ) (fed last : ℕ) (R : LineReady g s
 
       line-same : touchesIn g structure now (fed + i) ≡ of (fed + i) 1
       line-same =
-          line-stands ds structure (lineStart now) (lineStart ws) (storedRun L now) (storedRun L ws) (suc last) same-start (in-runs L ws now N (of fed i) t (G .united)) (omega (arith, R .lines .within, size-is)) (fed + i) (omega arith)
+          line-stands ds structure (lineStart now) (lineStart ws) (storedRun L now) (storedRun L ws) (suc last) same-start
+          (in-runs L ws now N (of fed i) t (G .united)) (omega (arith, R .lines .within, size-is)) (fed + i) (omega arith)
           ∙ (unfold touches gather in sym (append-nil (touchesIn g structure ws (fed + i))))
 
       module _ (next : List ℕ) (u : ℕ) (F : UnitedIn L now next (runsTo now (fed + i)) (touchesIn g structure now (fed + i)) u) where
@@ -119,21 +140,32 @@ module _ (g : Geo) (structure ws : List ℕ) (fed last : ℕ) (R : LineReady g s
         wide : UnitedIn L now next (runsTo now last) (of (fed + i) 1) u
         wide = record {
           starts = here .starts;
-          runs = united-wide (drop (L + 1) now) (drop (L + 1) next) (runsTo now (fed + i)) (runsTo now last) (part-ready L now last ready) (starts-rise L now last ready (suc (fed + i)) (suc last) (omega arith) (le-refl (suc last))) own-now (of (fed + i) 1) u
-              (subst (λ (x : ℕ). Ends (λ r. r < x) (of (fed + i) 1)) (sym (same-start (suc (fed + i)) (omega arith))) (of-ends (fed + i) 1 (suc (fed + i)) (omega arith) (omega arith))) (here .runs);
+          runs = united-wide (drop (L + 1) now) (drop (L + 1) next) (runsTo now (fed + i)) (runsTo now last) (part-ready L now last ready)
+              (starts-rise L now last ready (suc (fed + i)) (suc last) (omega arith) (le-refl (suc last))) own-now (of (fed + i) 1) u
+              (subst (λ (x : ℕ). Ends (λ r. r < x) (of (fed + i) 1)) (sym (same-start (suc (fed + i)) (omega arith)))
+              (of-ends (fed + i) 1 (suc (fed + i)) (omega arith) (omega arith))) (here .runs);
         }
           where
             own-now : (r : ℕ) → runsTo now (fed + i) ≤ r → r < runsTo now last → parentIn (drop (L + 1) now) r ≡ r
             own-now r a b =
                 subst (λ (f : ℕ → ℕ). f r ≡ r) (sym (part-parents L now))
-                (G .own r (omega (arith, same-start (suc (fed + i)) (omega arith), rise (fed + i) (suc (fed + i)) (omega arith) (omega arith))) (omega (arith, same-start (suc last) (le-refl (suc last)))))
+                (G .own r (omega (
+                  arith,
+                  same-start (suc (fed + i)) (omega arith),
+                  rise (fed + i) (suc (fed + i)) (omega arith) (omega arith),
+                )) (omega (arith, same-start (suc last) (le-refl (suc last)))))
 
         pub going-then : Going n dims L structure ws fed last (i + 1) next (t + u)
         going-then = record {
-          united = subst (λ (es : List Edge). UnitedIn L ws next N es (t + u)) (sym (touches-split ds structure (lineStart ws) (storedRun L ws) fed i 1)) (in-then L ws last (R .lines) now (of fed i) t (G .united) ends next (of (fed + i) 1) u wide);
+          united = subst (λ (es : List Edge). UnitedIn L ws next N es (t + u))
+              (sym (touches-split ds structure (lineStart ws) (storedRun L ws) fed i 1))
+              (in-then L ws last (R .lines) now (of fed i) t (G .united) ends next (of (fed + i) 1) u wide);
           own = λ r a b.
               let e : fed + (i + 1) ≡ suc (fed + i) = omega arith in
               let s : lineStart ws (suc (fed + i)) ≤ r = subst (λ (x : ℕ). lineStart ws x ≤ r) e a in
-              in-others L now next (runsTo now (fed + i)) (of (fed + i) 1) u here (parentPlace L r) (λ x k q. omega (arith, same-start (suc (fed + i)) (omega arith)))
+              in-others L now next (runsTo now (fed + i)) (of (fed + i) 1) u here (parentPlace L r) (λ x k q. omega (
+                arith,
+                same-start (suc (fed + i)) (omega arith),
+              ))
               ∙ G .own r (omega (arith, rise (fed + i) (suc (fed + i)) (omega arith) (omega arith))) b;
         }

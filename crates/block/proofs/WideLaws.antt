@@ -17,11 +17,13 @@ use Rattle.forest.proofs.ForestLaws.{root-stays, grouping-ends}
 use Rattle.forest.proofs.ParentLaws.{parents-fewer}
 use Rattle.forest.proofs.ResetLaws.{reset-grouping}
 
-module _ (p q : List ℕ) (n b : ℕ) (P : Parents p b) (l : n ≤ b) (own : (r : ℕ) → n ≤ r → r < b → parentIn p r ≡ r) (es : List Edge) (t : ℕ) (w : Ends (λ r. r < n) es) (U : United p q n es t) where
+module _ (p q : List ℕ) (n b : ℕ) (P : Parents p b) (l : n ≤ b) (own : (r : ℕ) → n ≤ r → r < b → parentIn p r ≡ r) (es : List Edge) (t : ℕ)
+    (w : Ends (λ r. r < n) es) (U : United p q n es t) where
   fewer : Parents p n
   fewer = parents-fewer p b n P l
 
-  alone : Parents p b × ((r : ℕ) → rep (grouping (parentIn p) b) r ≡ rep (grouping (parentIn p) n) r) × (joins (grouping (parentIn p) b) ≡ joins (grouping (parentIn p) n))
+  alone : Parents p b × ((r : ℕ) → rep (grouping (parentIn p) b) r ≡ rep (grouping (parentIn p) n) r)
+      × (joins (grouping (parentIn p) b) ≡ joins (grouping (parentIn p) n))
   alone = reset-grouping p p n b fewer (P .room) l (record { long = refl; own = own; others = λ j o. refl })
 
   -- a run from n on is still its own parent
@@ -35,7 +37,9 @@ module _ (p q : List ℕ) (n b : ℕ) (P : Parents p b) (l : n ≤ b) (own : (r 
       go true e = U .grouped r (ltb-true r n e)
       go false e =
           let a = ltb-false r n e in
-          root-stays (parentIn q) r (own-still r a h) ∙ sym (rep-outside n (visit es (grouping (parentIn p) n)) (ends-visit (λ x. x < n) es (grouping (parentIn p) n) w (grouping-ends (parentIn p) n (fewer .low))) r a)
+          root-stays (parentIn q) r (own-still r a h)
+          ∙ sym (rep-outside n (visit es (grouping (parentIn p) n))
+          (ends-visit (λ x. x < n) es (grouping (parentIn p) n) w (grouping-ends (parentIn p) n (fewer .low))) r a)
 
   low-wide : (r : ℕ) → r < b → parentIn q r ≤ r
   low-wide r h = go (ltb r n) refl

@@ -15,7 +15,8 @@ use Rattle.caller.specs.CallList.{Entry, callsOf, woven}
 use Rattle.caller.specs.Rooms.{Rooms}
 use Rattle.caller.specs.Made.{due, CallsMade, MadePromise}
 
-module _ {shape structure ws : List ℕ} {entries : List Entry} {rooms : Rooms} {answers : List ℕ} {number places : ℕ} {ws′ : List ℕ} {rooms′ : Rooms} {answers′ : List ℕ}
+module _ {shape structure ws : List ℕ} {entries : List Entry} {rooms : Rooms} {answers : List ℕ} {number places : ℕ} {ws′ : List ℕ}
+    {rooms′ : Rooms} {answers′ : List ℕ}
     (P : MadePromise shape structure ws entries rooms answers number places ws′ rooms′ answers′) (accepted : number ≡ 0) where
   abbrev cause : ℕ
   cause = openCause shape structure (length ws)
@@ -28,7 +29,8 @@ module _ {shape structure ws : List ℕ} {entries : List Entry} {rooms : Rooms} 
 
   -- the theorem, of calls that ran: every answer is right, and a reading or a size call after them is
   pub demand3-made : Demand3 shape structure (callsOf entries) (made .answered) (made .session) ws′
-  demand3-made = demand3 shape structure ws 0 (openRecord shape structure) (openWords ws) opens refl (callsOf entries) (made .answered) (made .session) ws′ (made .trace)
+  demand3-made = demand3 shape structure ws 0 (openRecord shape structure) (openWords ws) opens refl (callsOf entries) (made .answered)
+      (made .session) ws′ (made .trace)
     where
       opens : OpenPromise shape structure ws 0 (openRecord shape structure) (openWords ws)
       opens = record {

@@ -24,7 +24,8 @@ pub filled-all : {A : Type 0} (v : A) (i : ℕ) (ys : List A) → i ≡ length y
 filled-all v i ys e =
     let n = length-replicate (length ys) v in
     ap (λ (k : ℕ). overlay (replicate k v) ys) e ∙ overlay-short (replicate (length ys) v) ys (omega (arith, n))
-    ∙ ap (λ (l : List _). replicate (length ys) v ++ l) (drop-of-length-le ys {i = length (replicate (length ys) v)} (omega (arith, n))) ∙ append-nil (replicate (length ys) v)
+    ∙ ap (λ (l : List _). replicate (length ys) v ++ l) (drop-of-length-le ys {i = length (replicate (length ys) v)} (omega (arith, n)))
+    ∙ append-nil (replicate (length ys) v)
 
 -- ---- a part of a slice
 

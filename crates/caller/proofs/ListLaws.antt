@@ -37,7 +37,8 @@ module _ (l : Lent) where
     one i j e h = drop-cons list i 0 h ∙ ap (λ (k : ℕ). getD list i 0 ∷ drop k list) (sym (add-one i) ∙ sym e)
 
     decode-four : (i : ℕ) → i + 4 ≤ length list
-        → decode l (drop i list) ≡ entryOf l (getD list i 0) (getD list (i + 1) 0) (getD list (i + 2) 0) (getD list (i + 3) 0) ∷ decode l (drop (i + 4) list)
+        → decode l (drop i list) ≡ entryOf l (getD list i 0) (getD list (i + 1) 0) (getD list (i + 2) 0) (getD list (i + 3) 0) ∷ decode l
+        (drop (i + 4) list)
     decode-four i h = ap (decode l) all ∙ (unfold decode in refl)
       where
         all : drop i list ≡ getD list i 0 ∷ getD list (i + 1) 0 ∷ getD list (i + 2) 0 ∷ getD list (i + 3) 0 ∷ drop (i + 4) list
@@ -68,15 +69,22 @@ unfolding callsOf woven roomsAfter
 runs-none a = record { answered = []; trace = stop; rooms = refl; adds = adds-none }
 
 pub reached-none : (l : Lent) (list : List ℕ) (start : Standing) → Reached l list start start 0
-reached-none l list start = record { upto = omega arith; leads = λ a R. R; long = record { words = refl; room8 = refl; room16 = refl; room32 = refl; answers = refl } }
+reached-none l list start = record {
+  upto = omega arith;
+  leads = λ a R. R;
+  long =
+      record { words = refl; room8 = refl; room16 = refl; room32 = refl; answers = refl };
+}
 
 module _ {l : Lent} {list : List ℕ} {start here : Standing} {i : ℕ} (R : Reached l list start here i) where
   module _ {next : Standing} where
-    pub reached-next : 4 ≤ length list - i → Steps (entryOf l (getD list i 0) (getD list (i + 1) 0) (getD list (i + 2) 0) (getD list (i + 3) 0)) here next → SameLong here next
+    pub reached-next : 4 ≤ length list - i
+        → Steps (entryOf l (getD list i 0) (getD list (i + 1) 0) (getD list (i + 2) 0) (getD list (i + 3) 0)) here next → SameLong here next
         → Reached l list start next (i + 4)
     reached-next h S N = record {
       upto = omega arith;
-      leads = λ a T. R .leads a (subst (λ (es : List Entry). Performs es here a) (sym (decode-four l list i (omega arith))) (S (decode l (drop (i + 4) list)) a T));
+      leads = λ a T. R .leads a (subst (λ (es : List Entry). Performs es here a) (sym (decode-four l list i (omega arith)))
+          (S (decode l (drop (i + 4) list)) a T));
       long = record {
         words = N .words ∙ R .long .words;
         room8 = N .room8 ∙ R .long .room8;
@@ -90,7 +98,8 @@ module _ {l : Lent} {list : List ℕ} {start here : Standing} {i : ℕ} (R : Rea
     pub reached-few : i < length list → length list - i < 4 → Steps no-call here next → Performs (decode l list) start next
     reached-few h k S =
         let n = length-drop i list in
-        R .leads next (subst (λ (es : List Entry). Performs es here next) (sym (decode-few l (drop i list) (omega arith) (omega arith))) (S [] next (runs-none next)))
+        R .leads next (subst (λ (es : List Entry). Performs es here next) (sym (decode-few l (drop i list) (omega arith) (omega arith)))
+        (S [] next (runs-none next)))
 
   pub reached-all : length list ≤ i → Performs (decode l list) start here
   reached-all h =
@@ -98,9 +107,11 @@ module _ {l : Lent} {list : List ℕ} {start here : Standing} {i : ℕ} (R : Rea
       R .leads here (subst (λ (es : List Entry). Performs es here here) (sym (decode-none l (drop i list) (omega arith))) (runs-none here))
 
 -- rooms of the same lengths lend the same; e is what was read of the list
-pub entry-lent : (u8s u16s : List ℕ) (i16s : List ℤ) (f32s : List Float) (list : List ℕ) (i : ℕ) {start here next : Standing} (e : Four) → e ≡ fourAt list i → SameLong start here
+pub entry-lent : (u8s u16s : List ℕ) (i16s : List ℤ) (f32s : List Float) (list : List ℕ) (i : ℕ) {start here next : Standing} (e : Four)
+    → e ≡ fourAt list i → SameLong start here
     → Steps (entryOf (lentOf u8s u16s i16s f32s (here .rooms)) (e .code) (e .a) (e .b) (e .c)) here next
-    → Steps (entryOf (lentOf u8s u16s i16s f32s (start .rooms)) (getD list i 0) (getD list (i + 1) 0) (getD list (i + 2) 0) (getD list (i + 3) 0)) here next
+    → Steps (entryOf (lentOf u8s u16s i16s f32s (start .rooms)) (getD list i 0) (getD list (i + 1) 0) (getD list (i + 2) 0)
+    (getD list (i + 3) 0)) here next
 entry-lent u8s u16s i16s f32s list i {start} {here} {next} e is N S =
     subst (λ (l : Lent). Steps (entryOf l (getD list i 0) (getD list (i + 1) 0) (getD list (i + 2) 0) (getD list (i + 3) 0)) here next) same
     (subst (λ (q : Four). Steps (entryOf (lentOf u8s u16s i16s f32s (here .rooms)) (q .code) (q .a) (q .b) (q .c)) here next) is S)

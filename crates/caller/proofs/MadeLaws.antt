@@ -20,7 +20,8 @@ use Rattle.caller.specs.Making.{standing, Performs}
 use Rattle.caller.specs.Made.{due, MadePromise}
 use Rattle.frame.proofs.OverlayLaws.{overlay-none}
 
-module _ {shape structure ws : List ℕ} {number : ℕ} {s : Session} {ws₁ : List ℕ} (O : OpenPromise shape structure ws number s ws₁) (entries : List Entry) (rooms : Rooms) (answers : List ℕ) where
+module _ {shape structure ws : List ℕ} {number : ℕ} {s : Session} {ws₁ : List ℕ} (O : OpenPromise shape structure ws number s ws₁)
+    (entries : List Entry) (rooms : Rooms) (answers : List ℕ) where
   abbrev cause : ℕ
   cause = openCause shape structure (length ws)
 
@@ -38,8 +39,10 @@ module _ {shape structure ws : List ℕ} {number : ℕ} {s : Session} {ws₁ : L
   made-accepted {ws′} {rooms′} {answers′} g z R =
       let none : cause ≡ 0 = sym (O .said) ∙ z in
       let D = demand3 shape structure ws number s ws₁ O z (callsOf entries) (R .answered) (g .session) ws′ (R .trace) in
-      let w : due shape structure ws entries rooms answers ≡ woven entries (R .answered) = due-all none ∙ ap (woven entries) (sym (D .same)) in
-      let H : Holds (woven entries (R .answered)) answers answers′ (g .at) = R .adds .behind [] answers (record { now-is = sym (overlay-none answers); place-is = omega arith }) in
+      let w : due shape structure ws entries rooms answers ≡ woven entries (R .answered) = due-all none
+      ∙ ap (woven entries) (sym (D .same)) in
+      let H : Holds (woven entries (R .answered)) answers answers′ (g .at) = R .adds .behind [] answers
+      (record { now-is = sym (overlay-none answers); place-is = omega arith }) in
       record {
         opening = O .said;
         said = rw w (H .now-is);
@@ -49,8 +52,10 @@ module _ {shape structure ws : List ℕ} {number : ℕ} {s : Session} {ws₁ : L
         accepted = λ e. record {
           answered = R .answered;
           session = (g .session);
-          trace = subst (λ (x : Session). Trace x (openWords ws) (callsOf entries) (R .answered) (g .session) ws′) (O .session ∙ kept-new blank (openRecord shape structure) cause none)
-              (subst (λ (vs : List ℕ). Trace s vs (callsOf entries) (R .answered) (g .session) ws′) (O .words ∙ kept-new ws (openWords ws) cause none) (R .trace));
+          trace = subst (λ (x : Session). Trace x (openWords ws) (callsOf entries) (R .answered) (g .session) ws′)
+              (O .session ∙ kept-new blank (openRecord shape structure) cause none)
+              (subst (λ (vs : List ℕ). Trace s vs (callsOf entries) (R .answered) (g .session) ws′)
+              (O .words ∙ kept-new ws (openWords ws) cause none) (R .trace));
           outputs = R .rooms;
         };
       }

@@ -16,7 +16,8 @@ use Rattle.label.specs.Feeding.{FeedPromise}
 use Rattle.label.specs.Reading.{ReadPromise, SizesPromise}
 use Rattle.calls.specs.Trace.{Trace, by-feed, by-read, by-sizes}
 use Rattle.caller.specs.declared.Four.{Four}
-use Rattle.caller.specs.CallList.{Lent, Entry, call, no-call, feedEntry, held, readEntry, sizesEntry, entryOf, callsOf, noCall, eightNumbers, answerNumbers, numbersOf, woven}
+use Rattle.caller.specs.CallList.{Lent, Entry, call, no-call, feedEntry, held, readEntry, sizesEntry, entryOf, callsOf, noCall}
+use Rattle.caller.specs.CallList.{eightNumbers, answerNumbers, numbersOf, woven}
 use Rattle.frame.specs.Overlay.{overlay, Adds}
 use Rattle.caller.specs.Rooms.{Rooms, leaves, roomsAfter}
 use Rattle.caller.specs.Making.{Standing, Steps, FeedOf, Feeds}
@@ -30,11 +31,18 @@ stand s ws r answers place = record { session = s; words = ws; rooms = r; answer
 
 -- a call that was answered, whose answer was written
 pub step-call : {c : Call} {a : Answered} {s s′ : Session} {ws ws′ : List ℕ} {rooms : Rooms} {buf buf′ : List ℕ} {i j : ℕ}
-    → ((cs : List Call) (az : List Answered) (s″ : Session) (ws″ : List ℕ) → Trace s′ ws′ cs az s″ ws″ → Trace s ws (c ∷ cs) (a ∷ az) s″ ws″)
+    → ((cs : List Call) (az : List Answered) (s″ : Session) (ws″ : List ℕ) → Trace s′ ws′ cs az s″ ws″ → Trace s ws (c ∷ cs)
+    (a ∷ az) s″ ws″)
     → Adds (numbersOf a) buf i buf′ j
     → Steps (call c) (stand s ws rooms buf i) (stand s′ ws′ (leaves (a .written) rooms) buf′ j)
 unfolding callsOf woven roomsAfter
-step-call {a = a} by A es end R = record { answered = a ∷ R .answered; trace = by (callsOf es) (R .answered) (end .session) (end .words) (R .trace); rooms = R .rooms; adds = adds-then A (R .adds) }
+step-call {a = a} by A es end R = record {
+  answered = a ∷ R .answered;
+  trace = by (callsOf es) (R .answered) (end .session) (end .words)
+      (R .trace);
+  rooms = R .rooms;
+  adds = adds-then A (R .adds);
+}
 
 pub step-none : {s : Session} {ws : List ℕ} {rooms : Rooms} {buf buf′ : List ℕ} {i j : ℕ}
     → Adds (eightNumbers noCall 0 zeroFigures) buf i buf′ j
@@ -44,23 +52,29 @@ step-none A es end R = record { answered = R .answered; trace = R .trace; rooms 
 
 -- ---- a call of each kind that was made
 
-module _ {s s′ : Session} {ws ws′ : List ℕ} {a : Answer} {buf : List ℕ} {i : ℕ} {buf′ : List ℕ} {j : ℕ} (A : Adds (answerNumbers a) buf i buf′ j) where
-  pub step-feed : {k : ℕ} (cells : Cells) → FeedPromise s ws k (flags cells) a s′ ws′ → (rooms : Rooms) → Steps (call (feed k cells)) (stand s ws rooms buf i) (stand s′ ws′ rooms buf′ j)
+module _ {s s′ : Session} {ws ws′ : List ℕ} {a : Answer} {buf : List ℕ} {i : ℕ} {buf′ : List ℕ} {j : ℕ}
+    (A : Adds (answerNumbers a) buf i buf′ j) where
+  pub step-feed : {k : ℕ} (cells : Cells) → FeedPromise s ws k (flags cells) a s′ ws′ → (rooms : Rooms)
+      → Steps (call (feed k cells)) (stand s ws rooms buf i) (stand s′ ws′ rooms buf′ j)
   step-feed cells P rooms =
       step-call {a = record { said = a; written = nothing }} (λ cs az s″ ws″ T. by-feed {cells = cells} P T)
       (unfold numbersOf in rw (append-nil (answerNumbers a)) A)
 
   module _ {buf″ : List ℕ} {l : ℕ} where
-    pub step-read : (kind : Number) {out before out′ : List ℕ} → ReadPromise kind s ws before a s′ ws′ out′ → before ≡ out → Adds out′ buf′ j buf″ l → (rooms : Rooms)
+    pub step-read : (kind : Number) {out before out′ : List ℕ} → ReadPromise kind s ws before a s′ ws′ out′ → before ≡ out
+        → Adds out′ buf′ j buf″ l → (rooms : Rooms)
         → Steps (call (read kind out)) (stand s ws rooms buf i) (stand s′ ws′ (leaves (numbers kind out′) rooms) buf″ l)
     step-read kind {out} {before} {out′} P e B rooms =
-        step-call {a = record { said = a; written = numbers kind out′ }} (λ cs az s″ ws″ T. by-read {kind = kind} (subst (λ (o : List ℕ). ReadPromise kind s ws o a s′ ws′ out′) e P) T)
+        step-call {a = record { said = a; written = numbers kind out′ }}
+        (λ cs az s″ ws″ T. by-read {kind = kind} (subst (λ (o : List ℕ). ReadPromise kind s ws o a s′ ws′ out′) e P) T)
         (unfold numbersOf in adds-then A B)
 
-    pub step-sizes : {out before out′ : List ℕ} → SizesPromise s ws before a s′ ws′ out′ → before ≡ out → Adds out′ buf′ j buf″ l → (rooms : Rooms)
+    pub step-sizes : {out before out′ : List ℕ} → SizesPromise s ws before a s′ ws′ out′ → before ≡ out → Adds out′ buf′ j buf″ l
+        → (rooms : Rooms)
         → Steps (call (sizes out)) (stand s ws rooms buf i) (stand s′ ws′ (leaves (counts out′) rooms) buf″ l)
     step-sizes {out} {before} {out′} P e B rooms =
-        step-call {a = record { said = a; written = counts out′ }} (λ cs az s″ ws″ T. by-sizes (subst (λ (o : List ℕ). SizesPromise s ws o a s′ ws′ out′) e P) T)
+        step-call {a = record { said = a; written = counts out′ }}
+        (λ cs az s″ ws″ T. by-sizes (subst (λ (o : List ℕ). SizesPromise s ws o a s′ ws′ out′) e P) T)
         (unfold numbersOf in adds-then A B)
 
 -- ---- four numbers that are a feed, or no call
@@ -75,16 +89,28 @@ unfolding feedEntry
 feed-is make cells k from count n e h = rw (le-leb (from + count) (length cells) h, e) refl
 
 -- a feed of that kind, whose cells end at `end`, was made
-pub feed-made : {A : Type 0} (make : List A → Cells) (cells : List A) (k from count : ℕ) {end : ℕ} {entry : Entry} {s s′ : Session} {ws ws′ : List ℕ} {a : Answer}
-    → end ≡ from + count → end ≤ length cells → entry ≡ feedEntry make cells k from count → FeedPromise s ws k (flags (make (take (end - from) (drop from cells)))) a s′ ws′ → Feeds entry s ws a s′ ws′
-feed-made make cells k from count {end} e h is P = record { lines = k; cells = make (take (end - from) (drop from cells)); is-feed = is ∙ feed-is make cells k from count (end - from) (omega arith) (omega arith); made = P }
+pub feed-made : {A : Type 0} (make : List A → Cells) (cells : List A) (k from count : ℕ) {end : ℕ} {entry : Entry} {s s′ : Session}
+    {ws ws′ : List ℕ} {a : Answer}
+    → end ≡ from + count → end ≤ length cells → entry ≡ feedEntry make cells k from count → FeedPromise s ws k
+    (flags (make (take (end - from) (drop from cells)))) a s′ ws′ → Feeds entry s ws a s′ ws′
+feed-made make cells k from count {end} e h is P =
+    record {
+      lines = k;
+      cells = make (take (end - from) (drop from cells));
+      is-feed = is ∙ feed-is make cells k from count (end - from)
+          (omega arith) (omega arith);
+      made = P;
+    }
 
 -- the cells end within those lent of the code's kind
-pub feed-room : {e : Four} {end n0 n1 n2 n3 : ℕ} → FeedOf e end n0 n1 n2 n3 → (key : ℕ) → e .code ≡ key → end ≤ getD (n0 ∷ n1 ∷ n2 ∷ n3 ∷ []) key 0
-feed-room {end = end} {n0 = n0} {n1 = n1} {n2 = n2} {n3 = n3} F key is = subst (λ (k : ℕ). end ≤ getD (n0 ∷ n1 ∷ n2 ∷ n3 ∷ []) k 0) is (rw (F .ends) (F .within))
+pub feed-room : {e : Four} {end n0 n1 n2 n3 : ℕ} → FeedOf e end n0 n1 n2 n3 → (key : ℕ) → e .code ≡ key
+    → end ≤ getD (n0 ∷ n1 ∷ n2 ∷ n3 ∷ []) key 0
+feed-room {end = end} {n0 = n0} {n1 = n1} {n2 = n2} {n3 = n3} F key is =
+    subst (λ (k : ℕ). end ≤ getD (n0 ∷ n1 ∷ n2 ∷ n3 ∷ []) k 0) is (rw (F .ends) (F .within))
 
 -- codes 0 to 3 with a part beyond the cells lent
-pub feed-none : (l : Lent) (code a b c : ℕ) → code < 4 → leb (b + c) (getD (length (l .u8s) ∷ length (l .u16s) ∷ length (l .i16s) ∷ length (l .f32s) ∷ []) code 0) ≡ false
+pub feed-none : (l : Lent) (code a b c : ℕ) → code < 4
+    → leb (b + c) (getD (length (l .u8s) ∷ length (l .u16s) ∷ length (l .i16s) ∷ length (l .f32s) ∷ []) code 0) ≡ false
     → entryOf l code a b c ≡ no-call
 unfolding entryOf feedEntry
 feed-none l zero a b c h e = rw e refl
@@ -99,18 +125,21 @@ steps-as {b = b} {m = m} p S = subst (λ (x : Entry). Steps x b m) (sym p) S
 
 -- a feed that was made, as a step
 pub step-feeds : {entry : Entry} {s s′ : Session} {ws ws′ : List ℕ} {a : Answer} {buf : List ℕ} {i : ℕ} {buf′ : List ℕ} {j : ℕ}
-    → Feeds entry s ws a s′ ws′ → Adds (answerNumbers a) buf i buf′ j → (rooms : Rooms) → Steps entry (stand s ws rooms buf i) (stand s′ ws′ rooms buf′ j)
+    → Feeds entry s ws a s′ ws′ → Adds (answerNumbers a) buf i buf′ j → (rooms : Rooms) → Steps entry (stand s ws rooms buf i)
+    (stand s′ ws′ rooms buf′ j)
 step-feeds F A rooms = steps-as (F .is-feed) (step-feed A (F .cells) (F .made) rooms)
 
 -- ---- four numbers that are a reading or a size call, or no call
 
 -- rooms that are the same
-pub steps-rooms : {e : Entry} {b : Standing} {s : Session} {ws : List ℕ} {r r′ : Rooms} {buf : List ℕ} {i : ℕ} → r ≡ r′ → Steps e b (stand s ws r buf i) → Steps e b (stand s ws r′ buf i)
+pub steps-rooms : {e : Entry} {b : Standing} {s : Session} {ws : List ℕ} {r r′ : Rooms} {buf : List ℕ} {i : ℕ} → r ≡ r′
+    → Steps e b (stand s ws r buf i) → Steps e b (stand s ws r′ buf i)
 steps-rooms {e} {b} {s} {ws} {buf = buf} {i = i} p S = subst (λ (q : Rooms). Steps e b (stand s ws q buf i)) p S
 
 module _ (room : List ℕ) (places : ℕ) where
   -- the first places are lent and come back
-  pub room-back : places ≤ length room → (out′ : List ℕ) → length out′ ≡ length (take places room) → overlay out′ room ≡ out′ ++ drop places room
+  pub room-back : places ≤ length room → (out′ : List ℕ) → length out′ ≡ length (take places room)
+      → overlay out′ room ≡ out′ ++ drop places room
   room-back h out′ n =
       let e : length out′ ≡ places = n ∙ length-take-le places room h in
       subst (λ (k : ℕ). overlay out′ room ≡ out′ ++ drop k room) e (overlay-short out′ room (omega arith))
@@ -124,13 +153,18 @@ module _ (room : List ℕ) (places : ℕ) where
     unfolding sizesEntry
     sizes-out h S = rw (lt-leb places (length room) h) S
 
-    pub read-in : (kind : Number) → places ≤ length room → Steps (call (read kind (replicate (length (take places room)) (held kind value)))) b m → Steps (readEntry kind (length room) places value) b m
+    pub read-in : (kind : Number) → places ≤ length room
+        → Steps (call (read kind (replicate (length (take places room)) (held kind value)))) b m → Steps
+        (readEntry kind (length room) places value) b m
     unfolding readEntry
-    read-in kind h S = rw (le-leb places (length room) h) (subst (λ (n : ℕ). Steps (call (read kind (replicate n (held kind value)))) b m) (length-take-le places room h) S)
+    read-in kind h S = rw (le-leb places (length room) h)
+        (subst (λ (n : ℕ). Steps (call (read kind (replicate n (held kind value)))) b m) (length-take-le places room h) S)
 
-    pub sizes-in : places ≤ length room → Steps (call (sizes (replicate (length (take places room)) (held u32 value)))) b m → Steps (sizesEntry (length room) places value) b m
+    pub sizes-in : places ≤ length room → Steps (call (sizes (replicate (length (take places room)) (held u32 value)))) b m
+        → Steps (sizesEntry (length room) places value) b m
     unfolding sizesEntry
-    sizes-in h S = rw (le-leb places (length room) h) (subst (λ (n : ℕ). Steps (call (sizes (replicate n (held u32 value)))) b m) (length-take-le places room h) S)
+    sizes-in h S = rw (le-leb places (length room) h)
+        (subst (λ (n : ℕ). Steps (call (sizes (replicate n (held u32 value)))) b m) (length-take-le places room h) S)
 
 -- ---- the code
 

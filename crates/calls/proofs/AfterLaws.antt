@@ -31,9 +31,11 @@ use Rattle.calls.specs.Demand3.{Balanced, Reads, Sizes, Afterwards, Grou
 use Rattle.calls.proofs.RightLaws.{figures-right}
 
 -- a reading that is right gives each cell the number that the chain rule does
-pub number-is : (shape : List ℕ) (p : State) (kind : Number) (a : Answer) (out : List (Value kind)) → Reads shape p kind a out → (q : ℕ) → q < size shape
+pub number-is : (shape : List ℕ) (p : State) (kind : Number) (a : Answer) (out : List (Value kind)) → Reads shape p kind a out → (q : ℕ)
+    → q < size shape
     → value kind (getD out q (write kind 0)) ≡ label shape (p .structure) (p .cells) q
-number-is shape p kind a out R = label-only shape (p .structure) (p .cells) (groupCount shape (p .structure) (p .cells)) (λ q. value kind (getD out q (write kind 0))) (R .labelled)
+number-is shape p kind a out R = label-only shape (p .structure) (p .cells) (groupCount shape (p .structure) (p .cells))
+    (λ q. value kind (getD out q (write kind 0))) (R .labelled)
 
 module _ (s : Session) (ws : List ℕ) (I : Inv s ws) where
   abbrev shape : List ℕ
@@ -55,18 +57,25 @@ module _ (s : Session) (ws : List ℕ) (I : Inv s ws) where
   figures-held : Balanced shape (stateOf s ws) (s .figures)
   figures-held = subst (Balanced shape (stateOf s ws)) (sym (inv-figures s ws I)) (figures-right shape (stateOf s ws))
 
-  read-is-accepted : (kind : Number) (out : List (Value kind)) → length out ≡ size shape → n ≤ largest kind → readCauseOf kind s ws (length out) ≡ 0
-  read-is-accepted kind out e h = read-cause s ws I kind out ∙ (unfold cause groupsOf holds in accepted-read (length out) (size shape) (leb n (largest kind)) e (le-leb n (largest kind) h))
+  read-is-accepted : (kind : Number) (out : List (Value kind)) → length out ≡ size shape → n ≤ largest kind
+      → readCauseOf kind s ws (length out) ≡ 0
+  read-is-accepted kind out e h =
+      read-cause s ws I kind out
+      ∙ (unfold cause groupsOf holds in accepted-read (length out) (size shape) (leb n (largest kind)) e (le-leb n (largest kind) h))
 
   reads : (kind : Number) (out : List (Value kind)) → length out ≡ size shape → n ≤ largest kind
-      → (a : Answer) (s′ : Session) (ws′ : List ℕ) (out′ : List (Value kind)) → ReadPromise kind s ws out a s′ ws′ out′ → Reads shape (stateOf s ws) kind a out′
+      → (a : Answer) (s′ : Session) (ws′ : List ℕ) (out′ : List (Value kind)) → ReadPromise kind s ws out a s′ ws′ out′ → Reads shape
+      (stateOf s ws) kind a out′
   reads kind out e h a s′ ws′ out′ P = record {
     figures = s .figures;
     balanced = figures-held;
-    accepted = P .said ∙ unless-none (readCauseOf kind s ws (length out)) (countedOf s ws) no-cause ∙ ap (λ (m : ℕ). counted m (s .figures)) n-right;
+    accepted =
+        P .said ∙ unless-none (readCauseOf kind s ws (length out)) (countedOf s ws) no-cause
+        ∙ ap (λ (m : ℕ). counted m (s .figures)) n-right;
     long = ap length wrote ∙ length-map (labels shape structure cells) (write kind) ∙ length-labels shape structure cells;
     labelled = numbered-same (λ q. getD (labels shape structure cells) q 0) (λ q. value kind (getD out′ q (write kind 0)))
-        (λ q l. sym (ap (λ (o : List (Value kind)). value kind (getD o q (write kind 0))) wrote ∙ ap (value kind) (List·getD-map (write kind) (labels shape structure cells) q 0) ∙ value-write kind (getD (labels shape structure cells) q 0)))
+        (λ q l. sym (ap (λ (o : List (Value kind)). value kind (getD o q (write kind 0))) wrote ∙ ap (value kind)
+        (List·getD-map (write kind) (labels shape structure cells) q 0) ∙ value-write kind (getD (labels shape structure cells) q 0)))
         (labels-right shape structure cells);
   }
     where
@@ -86,7 +95,8 @@ module _ (s : Session) (ws : List ℕ) (I : Inv s ws) where
       let e : 1 + (g - 1) ≡ g = omega arith in
       listed-from (sizeOf shape structure cells) 1 n (g - 1) 0 (omega arith) ∙ ap (sizeOf shape structure cells) e
 
-  same-size : (ν : ℕ → ℕ) → Labelled shape structure cells n ν → (g : ℕ) → sizeOf shape structure cells g ≡ count (λ q. eqb (ν q) g) (size shape)
+  same-size : (ν : ℕ → ℕ) → Labelled shape structure cells n ν → (g : ℕ)
+      → sizeOf shape structure cells g ≡ count (λ q. eqb (ν q) g) (size shape)
   unfolding sizeOf
   same-size ν N g = count-same _ _ (size shape) (λ q l. ap (λ (m : ℕ). eqb m g) (sym (label-only shape structure cells n ν N q l)))
 
@@ -98,7 +108,8 @@ module _ (s : Session) (ws : List ℕ) (I : Inv s ws) where
   sized out e a s′ ws′ out′ P = record {
     figures = s .figures;
     balanced = figures-held;
-    accepted = P .said ∙ unless-none (sizesCauseOf s ws (length out)) (countedOf s ws) no-cause ∙ ap (λ (m : ℕ). counted m (s .figures)) n-right;
+    accepted =
+        P .said ∙ unless-none (sizesCauseOf s ws (length out)) (countedOf s ws) no-cause ∙ ap (λ (m : ℕ). counted m (s .figures)) n-right;
     long = ap length wrote ∙ long;
     counts = λ ν N g low high. ap (λ (l : List ℕ). getD l (g - 1) 0) wrote ∙ size-at g low high ∙ same-size ν N g;
   }

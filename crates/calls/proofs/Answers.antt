@@ -59,7 +59,8 @@ answers-right = refl
 -- the theorem speaks of it
 demand-met : Demand3 frame cross calls (ran .answers) (ran .session) (ran .words)
 unfolding ran begun
-demand-met = demand3 frame cross memory (doOpen frame cross memory .number) (doOpen frame cross memory .session) (doOpen frame cross memory .words) (open-met frame cross memory) (unfold computed in refl) calls _ _ _ (calls-met _ _ calls)
+demand-met = demand3 frame cross memory (doOpen frame cross memory .number) (doOpen frame cross memory .session)
+    (doOpen frame cross memory .words) (open-met frame cross memory) (unfold computed in refl) calls _ _ _ (calls-met _ _ calls)
 
 -- all lines fed, and words that join the five runs: run 3's parent is run 1, and that one's run 0
 abbrev three : State

@@ -31,7 +31,8 @@ doCalls s ws (sizes out ∷ cs) =
     let d = doSizes s ws out in
     then (record { said = d .said; written = counts (d .out) }) (doCalls s (d .words) cs)
 
-pub calls-met : (s : Session) (ws : List ℕ) (cs : List Call) → Trace s ws cs (doCalls s ws cs .answers) (doCalls s ws cs .session) (doCalls s ws cs .words)
+pub calls-met : (s : Session) (ws : List ℕ) (cs : List Call)
+    → Trace s ws cs (doCalls s ws cs .answers) (doCalls s ws cs .session) (doCalls s ws cs .words)
 unfolding doCalls
 calls-met s ws [] = stop
 calls-met s ws (feed k cells ∷ cs) = by-feed {cells = cells} (feed-met s ws k (flags cells)) (calls-met _ _ cs)

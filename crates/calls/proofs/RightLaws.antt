@@ -16,12 +16,14 @@ module _ (shape : List ℕ) where
   answer-right : (p : State) (c : Call) → cause shape p c ≡ 0 → Right shape (next shape p c) (answer shape p c)
   unfolding answer feeds groupsOf
   answer-right p (feed k cells) e =
-      subst (λ (q : State). Right shape q (fed (p .fed + k) (figures shape (feeds p k (flags cells))))) (sym (next-feeds shape p k cells e)) (refl, figures-right (feeds p k (flags cells)))
+      subst (λ (q : State). Right shape q (fed (p .fed + k) (figures shape (feeds p k (flags cells))))) (sym (next-feeds shape p k cells e))
+      (refl, figures-right (feeds p k (flags cells)))
   answer-right p (read kind out) e = unfold next in (refl, figures-right p)
   answer-right p (sizes out) e = unfold next in (refl, figures-right p)
 
   said-right : (p : State) (c : Call) → Right shape (next shape p c) (unless (cause shape p c) (answer shape p c))
-  said-right p c = unless-cases (Right shape (next shape p c)) (cause shape p c) (answer shape p c) (answer-right p c) (λ d e z. six-never shape p c (e ∙ z))
+  said-right p c = unless-cases (Right shape (next shape p c)) (cause shape p c) (answer shape p c) (answer-right p c)
+      (λ d e z. six-never shape p c (e ∙ z))
 
   pub plain-right : (p : State) (cs : List Call) → AllRight shape p cs (plain shape p cs)
   unfolding plain

@@ -55,7 +55,10 @@ leaves-unfed a R = let z : _≡_ {A = ℕ} 5 0 = number-is frame two u8 a _ R 6 
 -- the sizes of numbers 0 and 1, in place of 1 and 2
 shifted : (a : Answer) → Sizes frame two a (5 ∷ 2 ∷ []) → ⊥
 unfolding computed
-shifted a S = let z : _≡_ {A = ℕ} 5 2 = S .counts (label frame cross (line ++ line)) (label-right frame cross (line ++ line)) 1 (omega arith) (omega arith) in omega arith
+shifted a S =
+    let z : _≡_ {A = ℕ} 5 2 = S .counts (label frame cross (line ++ line)) (label-right frame cross (line ++ line)) 1 (omega arith)
+    (omega arith) in
+    omega arith
 
 -- the words after those two lines, with any parents of their four runs. Cells 0 and 3 are of runs 0 and 2, and make one group; cells 2 and
 -- 5 are of runs 1 and 3, and make another

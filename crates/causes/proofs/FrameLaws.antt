@@ -31,7 +31,8 @@ unfolding firstCause
 first-some [] us n h e = absurd (omega arith)
 first-some (t ∷ ts) us n h e = go (t .holds) e (first-some ts us n h)
   where
-    go : (b : Bool) → n ≡ cond b (t .number) (firstCause ts) → (n ≡ firstCause ts → n ≡ firstCause (ts ++ us)) → n ≡ cond b (t .number) (firstCause (ts ++ us))
+    go : (b : Bool) → n ≡ cond b (t .number) (firstCause ts) → (n ≡ firstCause ts → n ≡ firstCause (ts ++ us))
+        → n ≡ cond b (t .number) (firstCause (ts ++ us))
     go true e i = e
     go false e i = i e
 
@@ -43,13 +44,18 @@ first-none (t ∷ ts) us h = rw (h .0) (first-none ts us (h .1))
 
 -- ---- a whole frame's
 
-module _ (shape structure : List ℕ) (memory cells out : ℕ) (r : Checked) (F : Found (length shape) (padded 4 shape) structure (openCause shape structure memory) r) where
+module _ (shape structure : List ℕ) (memory cells out : ℕ) (r : Checked)
+    (F : Found (length shape) (padded 4 shape) structure (openCause shape structure memory) r) where
   -- an opening's cause is the frame's
-  pub frame-gets-open : 0 < checkNumber (r .check) → Found (length shape) (padded 4 shape) structure (frameCause shape structure memory cells out true) r
+  pub frame-gets-open : 0 < checkNumber (r .check)
+      → Found (length shape) (padded 4 shape) structure (frameCause shape structure memory cells out true) r
   unfolding frameCause frameTests openCause
   frame-gets-open some =
-      found-cause (length shape) (padded 4 shape) structure (checkNumber (r .check)) (frameCause shape structure memory cells out true) r some
-      (first-some (openTests shape structure memory) (when (not (eqb cells (size shape))) 8 ∷ when (not (eqb out (size shape))) 9 ∷ when (not true) 10 ∷ []) (checkNumber (r .check)) some (F .number))
+      found-cause (length shape) (padded 4 shape) structure (checkNumber (r .check)) (frameCause shape structure memory cells out true) r
+      some
+      (first-some (openTests shape structure memory)
+      (when (not (eqb cells (size shape))) 8 ∷ when (not (eqb out (size shape))) 9 ∷ when (not true) 10 ∷ []) (checkNumber (r .check)) some
+      (F .number))
       refl
 
   module _ (passed : checkNumber (r .check) ≡ 0) where
@@ -66,25 +72,34 @@ module _ (shape structure : List ℕ) (memory cells out : ℕ) (r : Checked) (F 
     K = F .geometry none
 
     frame-size : g .lines * g .width ≡ size shape
-    frame-size = ap₂ _*_ (K .lines-is ∙ ap lines (entries-padded 4 shape)) (K .width-is ∙ ap width (entries-padded 4 shape)) ∙ sym (size-lines shape)
+    frame-size =
+        ap₂ _*_ (K .lines-is ∙ ap lines (entries-padded 4 shape)) (K .width-is ∙ ap width (entries-padded 4 shape)) ∙ sym (size-lines shape)
 
     pub frame-small : r .geo .lines * r .geo .width < 4294967293
     frame-small = omega (arith, frame-size, within-limits shape (given .limits) .2)
 
     -- what is left to test
-    rest : frameCause shape structure memory cells out true ≡ firstCause (when (not (eqb cells (size shape))) 8 ∷ when (not (eqb out (size shape))) 9 ∷ when (not true) 10 ∷ [])
+    rest : frameCause shape structure memory cells out true
+        ≡ firstCause (when (not (eqb cells (size shape))) 8 ∷ when (not (eqb out (size shape))) 9 ∷ when (not true) 10 ∷ [])
     unfolding frameCause frameTests openCause
-    rest = first-none (openTests shape structure memory) (when (not (eqb cells (size shape))) 8 ∷ when (not (eqb out (size shape))) 9 ∷ when (not true) 10 ∷ []) (accepted (openTests shape structure memory) (open-real shape structure memory) .0 none)
+    rest = first-none (openTests shape structure memory)
+        (when (not (eqb cells (size shape))) 8 ∷ when (not (eqb out (size shape))) 9 ∷ when (not true) 10 ∷ [])
+        (accepted (openTests shape structure memory) (open-real shape structure memory) .0 none)
 
     pub frame-gets-8 : cells ≢ r .geo .lines * r .geo .width → 8 ≡ frameCause shape structure memory cells out true
     frame-gets-8 ne = rw (rest, ne-eqb cells (size shape) (λ e. ne (e ∙ sym frame-size))) (unfold firstCause in refl)
 
     module _ (whole : cells ≡ r .geo .lines * r .geo .width) where
       pub frame-gets-9 : out ≢ r .geo .lines * r .geo .width → 9 ≡ frameCause shape structure memory cells out true
-      frame-gets-9 ne = rw (rest, eq-eqb cells (size shape) (whole ∙ frame-size), ne-eqb out (size shape) (λ e. ne (e ∙ sym frame-size))) (unfold firstCause in refl)
+      frame-gets-9 ne = rw (rest, eq-eqb cells (size shape) (whole ∙ frame-size), ne-eqb out (size shape) (λ e. ne (e ∙ sym frame-size)))
+          (unfold firstCause in refl)
 
-      pub frame-found : out ≡ r .geo .lines * r .geo .width → Found (length shape) (padded 4 shape) structure (frameCause shape structure memory cells out true) r
+      pub frame-found : out ≡ r .geo .lines * r .geo .width
+          → Found (length shape) (padded 4 shape) structure (frameCause shape structure memory cells out true) r
       frame-found e = record {
-        number = passed ∙ rw (rest, eq-eqb cells (size shape) (whole ∙ frame-size), eq-eqb out (size shape) (e ∙ frame-size)) (unfold firstCause in refl);
+        number =
+            passed
+            ∙ rw (rest, eq-eqb cells (size shape) (whole ∙ frame-size), eq-eqb out (size shape) (e ∙ frame-size))
+            (unfold firstCause in refl);
         geometry = λ no-cause. K;
       }

@@ -23,7 +23,8 @@ use Rattle.causes.specs.Cases.{checkNumber}
 use Rattle.causes.specs.Checks.{Found}
 
 -- where there is a cause no geometry is promised
-pub found-cause : (rank : ℕ) (shape structure : List ℕ) (n cause : ℕ) (r : Checked) → 0 < n → n ≡ cause → checkNumber (r .check) ≡ n → Found rank shape structure cause r
+pub found-cause : (rank : ℕ) (shape structure : List ℕ) (n cause : ℕ) (r : Checked) → 0 < n → n ≡ cause → checkNumber (r .check) ≡ n
+    → Found rank shape structure cause r
 found-cause rank shape structure n cause r some e is = record { number = is ∙ e; geometry = λ none. absurd (omega arith) }
 
 -- the test of a rank is that of a shape of that rank
@@ -50,7 +51,9 @@ module _ (shape structure : List ℕ) (memory : ℕ) where
 
       module _ (g : Geo) (G : Measured (length shape) (padded 4 shape) structure g) where
         zero-is : hasZero (g .dims) ≡ hasZero (leading shape)
-        zero-is = measured-zero (length shape) (padded 4 shape) structure (open-ready .ranked) g G ∙ ap (λ (l : List ℕ). hasZero (leading l)) shape-is
+        zero-is =
+            measured-zero (length shape) (padded 4 shape) structure (open-ready .ranked) g G
+            ∙ ap (λ (l : List ℕ). hasZero (leading l)) shape-is
 
         large-is : largeGeo g ≡ tooLarge shape
         large-is = measured-large (length shape) (padded 4 shape) structure (open-ready .ranked) g G ∙ ap tooLarge shape-is
@@ -76,18 +79,33 @@ module _ (shape structure : List ℕ) (memory : ℕ) where
 
             module _ (needed : ℕ) (is : needed ≡ wordsOf g) where
               needs : needed ≡ wordsNeeded shape structure
-              needs = is ∙ geo-words (length shape) (padded 4 shape) structure g open-geo ∙ ap₂ wordsNeeded shape-is (entries-all (3 ^ length shape) structure bytes)
+              needs =
+                  is ∙ geo-words (length shape) (padded 4 shape) structure g open-geo
+                  ∙ ap₂ wordsNeeded shape-is (entries-all (3 ^ length shape) structure bytes)
 
               pub open-gets-5 : memory < needed → 5 ≡ openCause shape structure memory
               unfolding openCause openTests firstCause
-              open-gets-5 h = rw (ranked, eq-eqb (length structure) (3 ^ length shape) bytes, sym zero-is ∙ no-zero, limits, lt-ltb memory (wordsNeeded shape structure) (rw (← needs) h)) refl
+              open-gets-5 h = rw (
+                ranked,
+                eq-eqb (length structure) (3 ^ length shape) bytes,
+                sym zero-is ∙ no-zero,
+                limits,
+                lt-ltb memory (wordsNeeded shape structure) (rw (← needs) h),
+              ) refl
 
               pub open-gets-none : needed ≤ memory → 0 ≡ openCause shape structure memory
               unfolding openCause openTests firstCause
-              open-gets-none h = rw (ranked, eq-eqb (length structure) (3 ^ length shape) bytes, sym zero-is ∙ no-zero, limits, le-ltb memory (wordsNeeded shape structure) (rw (← needs) h)) refl
+              open-gets-none h = rw (
+                ranked,
+                eq-eqb (length structure) (3 ^ length shape) bytes,
+                sym zero-is ∙ no-zero,
+                limits,
+                le-ltb memory (wordsNeeded shape structure) (rw (← needs) h),
+              ) refl
 
               -- then the check passes
-              pub open-found : needed ≤ memory → (r : Checked) → checkNumber (r .check) ≡ 0 → r .geo ≡ g → Found (length shape) (padded 4 shape) structure (openCause shape structure memory) r
+              pub open-found : needed ≤ memory → (r : Checked) → checkNumber (r .check) ≡ 0 → r .geo ≡ g
+                  → Found (length shape) (padded 4 shape) structure (openCause shape structure memory) r
               open-found h r said same = record {
                 number = said ∙ open-gets-none h;
                 geometry = λ none. subst (GeoOf (length shape) (padded 4 shape) structure) (sym same) open-geo;

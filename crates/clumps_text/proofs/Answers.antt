@@ -12,13 +12,18 @@ use Rattle.frame.specs.ChainRule.{nonzero, sameList, any, leadsBy, step, edges,
 use Rattle.frame.specs.Runs.{goesOn, beginsRun, runs}
 use Rattle.frame.specs.declared.Figures.{Figures}
 use Rattle.frame.specs.Plain.{feeds, groupsOf, figures}
-use Rattle.clumps_text.specs.Text.{line, digits, decimal, blankBefore, decimals, flagCharacter, widthName, linesName, structureName, cellsName, runsName, joinsName, objectsName, labelsName, refusedName}
+use Rattle.clumps_text.specs.Text.{line, digits, decimal, blankBefore, decimals, flagCharacter, widthName, linesName, structureName}
+use Rattle.clumps_text.specs.Text.{cellsName, runsName, joinsName, objectsName, labelsName, refusedName}
 use Rattle.clumps_text.specs.Input.{andThen, parseExactly, digitsValue, parseNumber, parseFlags, flagsGiven, lastLines, parse}
 use Rattle.clumps_text.specs.Output.{structureBytes, refusalText, labelledText, outputTo, printed, clumpsOf}
 
 -- what the computation of an output opens
 computed : Unit {0}
-unfolding merge rep isRoot count groups gather pairs number size width leading coords offset backward on leftOn nonzero sameList any leadsBy step edges groupCount label range labels goesOn beginsRun runs feeds groupsOf figures zipWith digits decimal blankBefore decimals flagCharacter widthName linesName structureName cellsName runsName joinsName objectsName labelsName refusedName andThen parseExactly digitsValue parseNumber parseFlags flagsGiven lastLines parse structureBytes refusalText labelledText outputTo printed clumpsOf
+unfolding merge rep isRoot count groups gather pairs number size width leading coords offset backward on leftOn nonzero sameList any
+    leadsBy step edges groupCount label range labels goesOn beginsRun runs feeds groupsOf figures zipWith digits decimal blankBefore
+    decimals flagCharacter widthName linesName structureName cellsName runsName joinsName objectsName labelsName refusedName andThen
+    parseExactly digitsValue parseNumber parseFlags flagsGiven lastLines parse structureBytes refusalText labelledText outputTo printed
+    clumpsOf
 computed = tt
 
 -- ---- document 01's example, byte by byte
@@ -62,17 +67,23 @@ abbrev f : ℕ → ℕ → Figures
 f r j = record { runs = r; joins = j }
 
 -- an empty structure line is the default's; nine ones join 10/01 where it does not
-cross-right : map clumpsOf (text (c 1 3) (c 1 3) [] (c 9 101101111) [] ∷ text (c 1 2) (c 1 2) [] (c 4 1001) [] ∷ text (c 1 2) (c 1 2) (c 9 10111010) (c 4 1001) [] ∷ text (c 1 2) (c 1 2) (c 9 111111111) (c 4 1001) [] ∷ []) ≡ example-output ∷ labelledText 2 (f 2 0) (1 ∷ 0 ∷ 0 ∷ 2 ∷ []) ∷ labelledText 2 (f 2 0) (1 ∷ 0 ∷ 0 ∷ 2 ∷ []) ∷ labelledText 1 (f 2 1) (1 ∷ 0 ∷ 0 ∷ 1 ∷ []) ∷ []
+cross-right : map clumpsOf (text (c 1 3) (c 1 3) [] (c 9 101101111) [] ∷ text (c 1 2) (c 1 2) [] (c 4 1001) [] ∷ text (c 1 2) (c 1 2)
+    (c 9 10111010) (c 4 1001) [] ∷ text (c 1 2) (c 1 2) (c 9 111111111) (c 4 1001) [] ∷ []) ≡ example-output ∷ labelledText 2 (f 2 0)
+    (1 ∷ 0 ∷ 0 ∷ 2 ∷ []) ∷ labelledText 2 (f 2 0) (1 ∷ 0 ∷ 0 ∷ 2 ∷ []) ∷ labelledText 1 (f 2 1) (1 ∷ 0 ∷ 0 ∷ 1 ∷ []) ∷ []
 unfolding example-output text characters computed
 cross-right = refl
 
 -- the shape is lines, width: two cells in a line are one run, one below the other they are two
-shape-right : map clumpsOf (text (c 1 2) (c 1 1) [] (c 2 11) [] ∷ text (c 1 1) (c 1 2) [] (c 2 11) [] ∷ []) ≡ labelledText 1 (f 1 0) (1 ∷ 1 ∷ []) ∷ labelledText 1 (f 2 1) (1 ∷ 1 ∷ []) ∷ []
+shape-right : map clumpsOf (text (c 1 2) (c 1 1) [] (c 2 11) [] ∷ text (c 1 1) (c 1 2) [] (c 2 11) [] ∷ [])
+    ≡ labelledText 1 (f 1 0) (1 ∷ 1 ∷ []) ∷ labelledText 1 (f 2 1) (1 ∷ 1 ∷ []) ∷ []
 unfolding text characters computed
 shape-right = refl
 
 -- twelve lone cells: numbers of two digits
-twelve-right : clumpsOf (text (c 2 23) (c 1 1) [] (c 23 10101010101010101010101) []) ≡ line runsName (c 2 12) (line joinsName (c 1 0) (line objectsName (c 2 12) (line labelsName (decimals (1 ∷ 0 ∷ 2 ∷ 0 ∷ 3 ∷ 0 ∷ 4 ∷ 0 ∷ 5 ∷ 0 ∷ 6 ∷ 0 ∷ 7 ∷ 0 ∷ 8 ∷ 0 ∷ 9 ∷ 0 ∷ 10 ∷ 0 ∷ 11 ∷ 0 ∷ 12 ∷ [])) [])))
+twelve-right : clumpsOf (text (c 2 23) (c 1 1) [] (c 23 10101010101010101010101) [])
+    ≡ line runsName (c 2 12) (line joinsName (c 1 0)
+    (line objectsName (c 2 12) (line labelsName
+    (decimals (1 ∷ 0 ∷ 2 ∷ 0 ∷ 3 ∷ 0 ∷ 4 ∷ 0 ∷ 5 ∷ 0 ∷ 6 ∷ 0 ∷ 7 ∷ 0 ∷ 8 ∷ 0 ∷ 9 ∷ 0 ∷ 10 ∷ 0 ∷ 11 ∷ 0 ∷ 12 ∷ [])) [])))
 unfolding text characters computed
 twelve-right = refl
 

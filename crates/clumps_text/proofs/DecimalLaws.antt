@@ -16,7 +16,8 @@ digits-enough zero k n hj hk = absurd (omega arith)
 digits-enough (suc j) zero n hj hk = absurd (omega arith)
 digits-enough (suc j) (suc k) n hj hk = go (ltb n 10) refl (digits-enough j k (n / 10))
   where
-    go : (t : Bool) → ltb n 10 ≡ t → (n / 10 < j → n / 10 < k → digits j (n / 10) ≡ digits k (n / 10)) → cond (ltb n 10) [] (digits j (n / 10)) ++ ((48 + n % 10) ∷ []) ≡ cond (ltb n 10) [] (digits k (n / 10)) ++ ((48 + n % 10) ∷ [])
+    go : (t : Bool) → ltb n 10 ≡ t → (n / 10 < j → n / 10 < k → digits j (n / 10) ≡ digits k (n / 10))
+        → cond (ltb n 10) [] (digits j (n / 10)) ++ ((48 + n % 10) ∷ []) ≡ cond (ltb n 10) [] (digits k (n / 10)) ++ ((48 + n % 10) ∷ [])
     go true e r = rw e
     go false e r =
         let h = ltb-false n 10 e in

@@ -11,7 +11,8 @@ use borrow.Author.Tests.{eqb-true, eq-eqb, ne-eqb, leb-true, le-leb, ltb-true, l
 use lib.Dec.{eqb, leb, ltb}
 use lib.ListN.{length, getD}
 use Rattle.clumps_text.specs.Text.{line, decimal, flagCharacter, widthName, linesName, structureName, cellsName}
-use Rattle.clumps_text.specs.Input.{TextFrame, Accepted, textBefore, textOf, Parsed, parsed, bad, andThen, parseExactly, digitsValue, parseNumber, parseFlags, flagsGiven, lastLines, parse}
+use Rattle.clumps_text.specs.Input.{TextFrame, Accepted, textBefore, textOf, Parsed, parsed, bad, andThen, parseExactly, digitsValue}
+use Rattle.clumps_text.specs.Input.{parseNumber, parseFlags, flagsGiven, lastLines, parse}
 use Rattle.clumps_text.proofs.DecimalLaws.{decimal-small, decimal-two}
 
 -- ---- one thing after another
@@ -48,7 +49,8 @@ parse-exactly-back [] t e = cc
 parse-exactly-back (x ∷ xs) [] e = absurd (let z : _≡_ {A = ℕ} 0 1 = cc in omega arith)
 parse-exactly-back (x ∷ xs) (y ∷ t) {u} {r} e = go (eqb x y) refl e (parse-exactly-back xs t)
   where
-    go : (b : Bool) → eqb x y ≡ b → cond b (parseExactly xs t) bad ≡ parsed u r → (parseExactly xs t ≡ parsed u r → t ≡ xs ++ r) → y ∷ t ≡ x ∷ (xs ++ r)
+    go : (b : Bool) → eqb x y ≡ b → cond b (parseExactly xs t) bad ≡ parsed u r → (parseExactly xs t ≡ parsed u r → t ≡ xs ++ r)
+        → y ∷ t ≡ x ∷ (xs ++ r)
     go true h e ih =
         let a = eqb-true x y h in
         let l = ih e in
@@ -73,7 +75,9 @@ digits-value-of v t h = go (ltb v 10) refl
 pub parse-number-of : (v : ℕ) (t : List ℕ) → 1 ≤ v → v ≤ 48 → parseNumber (decimal v ++ (10 ∷ t)) ≡ parsed v t
 unfolding parseNumber andThen
 parse-number-of v t h l =
-    let b : parseExactly (decimal v ++ (10 ∷ [])) (decimal v ++ (10 ∷ t)) ≡ parsed tt t = subst (λ (s : List ℕ). parseExactly (decimal v ++ (10 ∷ [])) s ≡ parsed tt t) (append-assoc (decimal v) (10 ∷ []) t) (parse-exactly-of (decimal v ++ (10 ∷ [])) t) in
+    let b : parseExactly (decimal v ++ (10 ∷ [])) (decimal v ++ (10 ∷ t)) ≡ parsed tt t =
+    subst (λ (s : List ℕ). parseExactly (decimal v ++ (10 ∷ [])) s ≡ parsed tt t) (append-assoc (decimal v) (10 ∷ []) t)
+    (parse-exactly-of (decimal v ++ (10 ∷ [])) t) in
     rw (digits-value-of v t l, le-leb 1 v h, le-leb v 48 l, b)
 
 pub record IsNumber (v : ℕ) (t r : List ℕ) : Type 0 where
@@ -85,16 +89,21 @@ pub parse-number-back : (t : List ℕ) {v : ℕ} {r : List ℕ} → parseNumber 
 unfolding parseNumber
 parse-number-back t {v} {r} e = go (leb 1 (digitsValue t)) (leb (digitsValue t) 48) refl refl e
   where
-    go : (a b : Bool) → leb 1 (digitsValue t) ≡ a → leb (digitsValue t) 48 ≡ b → cond (a && b) (andThen (parseExactly (decimal (digitsValue t) ++ (10 ∷ [])) t) λ _ r. parsed (digitsValue t) r) bad ≡ parsed v r → IsNumber v t r
+    go : (a b : Bool) → leb 1 (digitsValue t) ≡ a → leb (digitsValue t) 48 ≡ b
+        → cond (a && b) (andThen (parseExactly (decimal (digitsValue t) ++ (10 ∷ [])) t) λ _ r. parsed (digitsValue t) r) bad ≡ parsed v r
+        → IsNumber v t r
     go true true p q e =
         let h = through _ _ e in
         let w : digitsValue t ≡ v = same-read (h .goes-on) in
         let s : h .after ≡ r = same-rest (h .goes-on) in
-        let b : t ≡ (decimal (digitsValue t) ++ (10 ∷ [])) ++ h .after = parse-exactly-back (decimal (digitsValue t) ++ (10 ∷ [])) t (h .reads) in
+        let b : t ≡ (decimal (digitsValue t) ++ (10 ∷ [])) ++ h .after = parse-exactly-back (decimal (digitsValue t) ++ (10 ∷ [])) t
+        (h .reads) in
         record {
           some = subst (λ (n : ℕ). 1 ≤ n) w (leb-true 1 (digitsValue t) p);
           most = subst (λ (n : ℕ). n ≤ 48) w (leb-true (digitsValue t) 48 q);
-          text = subst (λ (n : ℕ). t ≡ decimal n ++ (10 ∷ r)) w (subst (λ (l : List ℕ). t ≡ decimal (digitsValue t) ++ (10 ∷ l)) s (b ∙ append-assoc (decimal (digitsValue t)) (10 ∷ []) (h .after)));
+          text = subst (λ (n : ℕ). t ≡ decimal n ++ (10 ∷ r)) w
+              (subst (λ (l : List ℕ). t ≡ decimal (digitsValue t) ++ (10 ∷ l)) s
+              (b ∙ append-assoc (decimal (digitsValue t)) (10 ∷ []) (h .after)));
         }
     go true false p q e = absurd (let z : _≡_ {A = ℕ} 0 1 = cc in omega arith)
     go false b p q e = absurd (let z : _≡_ {A = ℕ} 0 1 = cc in omega arith)
@@ -128,7 +137,8 @@ parse-flags-back zero t fs r e =
 parse-flags-back (suc n) [] fs r e = absurd (let z : _≡_ {A = ℕ} 0 1 = cc in omega arith)
 parse-flags-back (suc n) (b ∷ t) fs r e = go (eqb b 48) (eqb b 49) refl refl e (parse-flags-back n t)
   where
-    more : (q : Bool) → b ≡ flagCharacter q → andThen (parseFlags n t) (λ gs s. parsed (q ∷ gs) s) ≡ parsed fs r → ((gs : List Bool) (s : List ℕ) → parseFlags n t ≡ parsed gs s → AreFlags n gs t s) → AreFlags (suc n) fs (b ∷ t) r
+    more : (q : Bool) → b ≡ flagCharacter q → andThen (parseFlags n t) (λ gs s. parsed (q ∷ gs) s) ≡ parsed fs r
+        → ((gs : List Bool) (s : List ℕ) → parseFlags n t ≡ parsed gs s → AreFlags n gs t s) → AreFlags (suc n) fs (b ∷ t) r
     more q f e ih =
         let h = through _ _ e in
         let a = ih (h .first) (h .after) (h .reads) in
@@ -137,7 +147,8 @@ parse-flags-back (suc n) (b ∷ t) fs r e = go (eqb b 48) (eqb b 49) refl refl e
         let x : t ≡ map flagCharacter (h .first) ++ r = subst (λ (l : List ℕ). t ≡ map flagCharacter (h .first) ++ l) s (a .text) in
         subst (λ (gs : List Bool). AreFlags (suc n) gs (b ∷ t) r) g (record { many = ap suc (a .many); text = cc })
 
-    go : (p q : Bool) → eqb b 48 ≡ p → eqb b 49 ≡ q → cond (p || q) (andThen (parseFlags n t) (λ gs s. parsed (q ∷ gs) s)) bad ≡ parsed fs r → ((gs : List Bool) (s : List ℕ) → parseFlags n t ≡ parsed gs s → AreFlags n gs t s) → AreFlags (suc n) fs (b ∷ t) r
+    go : (p q : Bool) → eqb b 48 ≡ p → eqb b 49 ≡ q → cond (p || q) (andThen (parseFlags n t) (λ gs s. parsed (q ∷ gs) s)) bad ≡ parsed fs r
+        → ((gs : List Bool) (s : List ℕ) → parseFlags n t ≡ parsed gs s → AreFlags n gs t s) → AreFlags (suc n) fs (b ∷ t) r
     go true q h k e ih = more q (flag-character b true q h k refl) e ih
     go false true h k e ih = more true (flag-character b false true h k refl) e ih
     go false false h k e ih = absurd (let z : _≡_ {A = ℕ} 0 1 = cc in omega arith)
@@ -179,9 +190,22 @@ parse-before f rest a =
     let t₆ : List ℕ = line [] s (cellsName ++ (c ++ t₈)) in
     let t₄ : List ℕ = structureName ++ t₆ in
     let t₂ : List ℕ = line linesName (decimal l) t₄ in
-    let e₅ : parseFlags (flagsGiven t₆) t₆ ≡ parsed (f .structure) (10 ∷ (cellsName ++ (c ++ t₈))) = rw (flags-given-of (f .structure) (cellsName ++ (c ++ t₈)) (a .nine-or-none)) (parse-flags-of (f .structure) (10 ∷ (cellsName ++ (c ++ t₈)))) in
-    let e₇ : parseFlags (l * w) (c ++ t₈) ≡ parsed (f .cells) t₈ = subst (λ (n : ℕ). parseFlags n (c ++ t₈) ≡ parsed (f .cells) t₈) (a .all-cells) (parse-flags-of (f .cells) t₈) in
-    rw (parse-exactly-of widthName (decimal w ++ (10 ∷ t₂)), parse-number-of w t₂ (a .some-width) (a .most-width), parse-exactly-of linesName (decimal l ++ (10 ∷ t₄)), parse-number-of l t₄ (a .some-lines) (a .most-lines), parse-exactly-of structureName t₆, e₅, parse-exactly-of (10 ∷ cellsName) (c ++ t₈), e₇, parse-exactly-of (10 ∷ []) rest)
+    let e₅ : parseFlags (flagsGiven t₆) t₆ ≡ parsed (f .structure) (10 ∷ (cellsName ++ (c ++ t₈))) =
+    rw (flags-given-of (f .structure) (cellsName ++ (c ++ t₈)) (a .nine-or-none))
+    (parse-flags-of (f .structure) (10 ∷ (cellsName ++ (c ++ t₈)))) in
+    let e₇ : parseFlags (l * w) (c ++ t₈) ≡ parsed (f .cells) t₈ = subst (λ (n : ℕ). parseFlags n (c ++ t₈) ≡ parsed (f .cells) t₈)
+    (a .all-cells) (parse-flags-of (f .cells) t₈) in
+    rw (
+      parse-exactly-of widthName (decimal w ++ (10 ∷ t₂)),
+      parse-number-of w t₂ (a .some-width) (a .most-width),
+      parse-exactly-of linesName (decimal l ++ (10 ∷ t₄)),
+      parse-number-of l t₄ (a .some-lines) (a .most-lines),
+      parse-exactly-of structureName t₆,
+      e₅,
+      parse-exactly-of (10 ∷ cellsName) (c ++ t₈),
+      e₇,
+      parse-exactly-of (10 ∷ []) rest,
+    )
 
 pub parse-text : (f : TextFrame) → Accepted f → parse (textOf f) ≡ parsed f []
 unfolding textOf
@@ -222,10 +246,17 @@ parse-back text f rest e =
       nine-or-none = ⊎-elim (λ x. inl (f₆ .many ∙ x)) (λ x. inr (f₆ .many ∙ x)) (flags-given-cases (h₅ .after));
       all-cells = f₈ .many;
     } in
-    let t₇ : h₆ .after ≡ 10 ∷ line cellsName (map flagCharacter (h₈ .first)) (h₉ .after) = b₇ ∙ ap (λ (l : List ℕ). 10 ∷ (cellsName ++ l)) (f₈ .text ∙ ap (λ (l : List ℕ). map flagCharacter (h₈ .first) ++ l) b₉) in
-    let t₅ : h₄ .after ≡ structureName ++ (map flagCharacter (h₆ .first) ++ (10 ∷ line cellsName (map flagCharacter (h₈ .first)) (h₉ .after))) = b₅ ∙ ap (λ (l : List ℕ). structureName ++ l) (f₆ .text ∙ ap (λ (l : List ℕ). map flagCharacter (h₆ .first) ++ l) t₇) in
-    let t₃ : h₂ .after ≡ line linesName (decimal (h₄ .first)) (line structureName (map flagCharacter (h₆ .first)) (line cellsName (map flagCharacter (h₈ .first)) (h₉ .after))) = b₃ ∙ ap (λ (l : List ℕ). linesName ++ l) (n₄ .text ∙ ap (λ (l : List ℕ). decimal (h₄ .first) ++ (10 ∷ l)) t₅) in
-    let t : text ≡ textBefore g (h₉ .after) = b₁ ∙ ap (λ (l : List ℕ). widthName ++ l) (n₂ .text ∙ ap (λ (l : List ℕ). decimal (h₂ .first) ++ (10 ∷ l)) t₃) in
+    let t₇ : h₆ .after ≡ 10 ∷ line cellsName (map flagCharacter (h₈ .first)) (h₉ .after) = b₇
+    ∙ ap (λ (l : List ℕ). 10 ∷ (cellsName ++ l)) (f₈ .text ∙ ap (λ (l : List ℕ). map flagCharacter (h₈ .first) ++ l) b₉) in
+    let t₅ : h₄ .after
+    ≡ structureName ++ (map flagCharacter (h₆ .first) ++ (10 ∷ line cellsName (map flagCharacter (h₈ .first)) (h₉ .after))) =
+    b₅ ∙ ap (λ (l : List ℕ). structureName ++ l) (f₆ .text ∙ ap (λ (l : List ℕ). map flagCharacter (h₆ .first) ++ l) t₇) in
+    let t₃ : h₂ .after
+    ≡ line linesName (decimal (h₄ .first)) (line structureName (map flagCharacter (h₆ .first))
+    (line cellsName (map flagCharacter (h₈ .first)) (h₉ .after))) =
+    b₃ ∙ ap (λ (l : List ℕ). linesName ++ l) (n₄ .text ∙ ap (λ (l : List ℕ). decimal (h₄ .first) ++ (10 ∷ l)) t₅) in
+    let t : text ≡ textBefore g (h₉ .after) = b₁
+    ∙ ap (λ (l : List ℕ). widthName ++ l) (n₂ .text ∙ ap (λ (l : List ℕ). decimal (h₂ .first) ++ (10 ∷ l)) t₃) in
     let q : g ≡ f = same-read (h₉ .goes-on) in
     let r : h₉ .after ≡ rest = same-rest (h₉ .goes-on) in
     subst (λ (x : TextFrame). IsText x text rest) q (subst (λ (l : List ℕ). IsText g text l) r (record { accepted = a; text = t }))

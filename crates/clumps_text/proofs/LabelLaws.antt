@@ -46,7 +46,8 @@ module _ {w l : ℕ} {structure cells numbers : List ℕ} (r : LabelReady w l st
   enough =
       let p : mostRuns (leftOn shape structure) w ≤ w = per-line (leftOn shape structure) w (r .some-width) in
       let q : l * mostRuns (leftOn shape structure) w ≤ 2304 = mul-le-mul (r .most-lines) (le-trans p (r .most-width)) in
-      let e : 4 * (l * 1) * mostRuns (leftOn shape structure) w ≡ 4 * (l * mostRuns (leftOn shape structure) w) = ap (λ (k : ℕ). 4 * k * mostRuns (leftOn shape structure) w) (mul-one l) ∙ mul-assoc 4 l (mostRuns (leftOn shape structure) w) in
+      let e : 4 * (l * 1) * mostRuns (leftOn shape structure) w ≡ 4 * (l * mostRuns (leftOn shape structure) w) =
+      ap (λ (k : ℕ). 4 * k * mostRuns (leftOn shape structure) w) (mul-one l) ∙ mul-assoc 4 l (mostRuns (leftOn shape structure) w) in
       omega (arith, e, q, r .most-lines)
 
   not-large : tooLarge shape ≡ false
@@ -65,7 +66,8 @@ module _ {w l : ℕ} {structure cells numbers : List ℕ} (r : LabelReady w l st
   unfolding holds largest
   fits n h = le-leb n 65535 (omega (arith, all-cells, most-cells))
 
-  no-cause : (memory c o n : ℕ) → memory ≡ 9265 → c ≡ l * w → o ≡ l * w → n ≤ size shape → frameCause shape structure memory c o (holds u16 n) ≡ 0
+  no-cause : (memory c o n : ℕ) → memory ≡ 9265 → c ≡ l * w → o ≡ l * w → n ≤ size shape
+      → frameCause shape structure memory c o (holds u16 n) ≡ 0
   unfolding frameCause frameTests openTests firstCause badRank
   no-cause memory c o n m x y h =
       let s : eqb (length structure) 9 ≡ true = eq-eqb (length structure) 9 (r .nine) in
@@ -77,11 +79,18 @@ module _ {w l : ℕ} {structure cells numbers : List ℕ} (r : LabelReady w l st
   abbrev bs : List Bool
   bs = map nz cells
 
-  pub labels-done : (words : List ℕ) {words′ : List ℕ} {a : Answer} {numbers′ : List ℕ} → length words ≡ 9265 → FramePromise u16 shape structure words bs numbers a words′ numbers′ → Labels shape structure bs a numbers′
+  pub labels-done : (words : List ℕ) {words′ : List ℕ} {a : Answer} {numbers′ : List ℕ} → length words ≡ 9265
+      → FramePromise u16 shape structure words bs numbers a words′ numbers′ → Labels shape structure bs a numbers′
   unfolding frameCauseOf groupsOf figures feeds unless kept
   labels-done words m p =
-      let z : frameCauseOf u16 shape structure words bs numbers ≡ 0 = no-cause (length words) (length bs) (length numbers) (groupCount shape structure bs) m (length-map cells nz ∙ r .bytes) (r .places) (groups-most shape structure bs) in
+      let z : frameCauseOf u16 shape structure words bs numbers ≡ 0 = no-cause (length words) (length bs) (length numbers)
+      (groupCount shape structure bs) m (length-map cells nz ∙ r .bytes) (r .places) (groups-most shape structure bs) in
       record {
-        said = p .said ∙ ap (λ (k : ℕ). unless k (counted (groupsOf shape (allFed shape structure bs)) (figures shape (allFed shape structure bs)))) z;
-        labelled = p .output ∙ (ap (λ (k : ℕ). kept k numbers (map (write u16) (labels shape structure bs))) z ∙ map-id (labels shape structure bs));
+        said =
+            p .said
+            ∙ ap (λ (k : ℕ). unless k (counted (groupsOf shape (allFed shape structure bs))
+            (figures shape (allFed shape structure bs)))) z;
+        labelled =
+            p .output
+            ∙ (ap (λ (k : ℕ). kept k numbers (map (write u16) (labels shape structure bs))) z ∙ map-id (labels shape structure bs));
       }

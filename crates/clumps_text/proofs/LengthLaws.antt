@@ -18,7 +18,8 @@ use Rattle.frame.specs.Runs.{beginsRun, runs}
 use Rattle.frame.specs.declared.Figures.{Figures}
 use Rattle.frame.specs.Plain.{feeds, groupsOf, figures}
 use Rattle.frame.proofs.ChainRuleLaws.{labels-right, length-labels}
-use Rattle.clumps_text.specs.Text.{decimal, blankBefore, decimals, flagCharacter, widthName, linesName, structureName, cellsName, runsName, joinsName, objectsName, labelsName, refusedName}
+use Rattle.clumps_text.specs.Text.{decimal, blankBefore, decimals, flagCharacter, widthName, linesName, structureName, cellsName}
+use Rattle.clumps_text.specs.Text.{runsName, joinsName, objectsName, labelsName, refusedName}
 use Rattle.clumps_text.specs.Input.{TextFrame, Accepted, textBefore, Parsed, parsed, bad, parse}
 use Rattle.clumps_text.specs.Output.{frameShape, frameStructure, refusalText, labelledText, outputTo, outputOf, printed, clumpsOf}
 use Rattle.clumps_text.proofs.DecimalLaws.{decimal-small, decimal-more}
@@ -134,8 +135,14 @@ unfolding textBefore widthName linesName structureName cellsName
 text-most f a =
     let w = two-digits (f .width) (omega (arith, a .most-width)) in
     let l = two-digits (f .lines) (omega (arith, a .most-lines)) in
-    let s : length (map flagCharacter (f .structure)) ≤ 9 = le-trans (omega (arith, length-map (f .structure) flagCharacter)) (flags-most (f .structure) (a .nine-or-none)) in
-    let c : length (map flagCharacter (f .cells)) ≤ 2304 = omega (arith, length-map (f .cells) flagCharacter, a .all-cells, product (a .most-lines) (a .most-width)) in
+    let s : length (map flagCharacter (f .structure)) ≤ 9 = le-trans (omega (arith, length-map (f .structure) flagCharacter))
+    (flags-most (f .structure) (a .nine-or-none)) in
+    let c : length (map flagCharacter (f .cells)) ≤ 2304 = omega (
+      arith,
+      length-map (f .cells) flagCharacter,
+      a .all-cells,
+      product (a .most-lines) (a .most-width),
+    ) in
     simp length-append (omega arith)
 
 pub long-refused : (text : List ℕ) → 2349 < length text → clumpsOf text ≡ refusalText 11

@@ -31,21 +31,29 @@ parse-exactly-short (x ∷ xs) (y ∷ t) h = go (eqb x y) (parse-exactly-short x
     go false e = refl
 
 module _ (name text : List ℕ) (at i : ℕ) (h : i < length name) (l : at + i < length text) where
-  parse-exactly-one : parseExactly (drop i name) (drop (at + i) text) ≡ cond (eqb (getD name i 0) (getD text (at + i) 0)) (parseExactly (drop (i + 1) name) (drop (at + (i + 1)) text)) bad
+  parse-exactly-one : parseExactly (drop i name) (drop (at + i) text)
+      ≡ cond (eqb (getD name i 0) (getD text (at + i) 0)) (parseExactly (drop (i + 1) name) (drop (at + (i + 1)) text)) bad
   unfolding parseExactly
   parse-exactly-one =
-      let n : drop i name ≡ getD name i 0 ∷ drop (i + 1) name = drop-cons name i 0 h ∙ ap (λ (k : ℕ). getD name i 0 ∷ drop k name) (sym (add-one i)) in
+      let n : drop i name ≡ getD name i 0 ∷ drop (i + 1) name = drop-cons name i 0 h
+      ∙ ap (λ (k : ℕ). getD name i 0 ∷ drop k name) (sym (add-one i)) in
       let k : suc (at + i) ≡ at + (i + 1) = omega arith in
-      let t : drop (at + i) text ≡ getD text (at + i) 0 ∷ drop (at + (i + 1)) text = drop-cons text (at + i) 0 l ∙ ap (λ (k : ℕ). getD text (at + i) 0 ∷ drop k text) k in
+      let t : drop (at + i) text ≡ getD text (at + i) 0 ∷ drop (at + (i + 1)) text = drop-cons text (at + i) 0 l
+      ∙ ap (λ (k : ℕ). getD text (at + i) 0 ∷ drop k text) k in
       rw (n, t)
 
-  pub parse-exactly-same : getD text (at + i) 0 ≡ getD name i 0 → parseExactly (drop i name) (drop (at + i) text) ≡ parseExactly (drop (i + 1) name) (drop (at + (i + 1)) text)
-  parse-exactly-same e = parse-exactly-one ∙ ap (λ (b : Bool). cond b (parseExactly (drop (i + 1) name) (drop (at + (i + 1)) text)) bad) (eq-eqb _ _ (sym e))
+  pub parse-exactly-same : getD text (at + i) 0 ≡ getD name i 0
+      → parseExactly (drop i name) (drop (at + i) text) ≡ parseExactly (drop (i + 1) name) (drop (at + (i + 1)) text)
+  parse-exactly-same e =
+      parse-exactly-one ∙ ap (λ (b : Bool). cond b (parseExactly (drop (i + 1) name) (drop (at + (i + 1)) text)) bad) (eq-eqb _ _ (sym e))
 
   pub parse-exactly-differ : (getD text (at + i) 0 ≡ getD name i 0 → ⊥) → parseExactly (drop i name) (drop (at + i) text) ≡ bad
-  parse-exactly-differ e = parse-exactly-one ∙ ap (λ (b : Bool). cond b (parseExactly (drop (i + 1) name) (drop (at + (i + 1)) text)) bad) (ne-eqb _ _ (λ q. e (sym q)))
+  parse-exactly-differ e =
+      parse-exactly-one
+      ∙ ap (λ (b : Bool). cond b (parseExactly (drop (i + 1) name) (drop (at + (i + 1)) text)) bad) (ne-eqb _ _ (λ q. e (sym q)))
 
-pub parse-exactly-all : (name text : List ℕ) (at i : ℕ) → length name ≤ i → i ≤ length name → parseExactly (drop i name) (drop (at + i) text) ≡ parsed tt (drop (at + i) text)
+pub parse-exactly-all : (name text : List ℕ) (at i : ℕ) → length name ≤ i → i ≤ length name
+    → parseExactly (drop i name) (drop (at + i) text) ≡ parsed tt (drop (at + i) text)
 unfolding parseExactly
 parse-exactly-all name text at i h l =
     let e : i ≡ length name = omega arith in
@@ -72,9 +80,11 @@ pub as-bytes-short : (n : ℕ) (t : List ℕ) → length t < n → bad ≡ asByt
 unfolding andThen
 as-bytes-short n t h = rw (parse-flags-short n t h)
 
-as-bytes-more : (x : Parsed (List Bool)) (pre : List ℕ) (v : ℕ) (f : Bool) → asByte f ≡ v → asBytes pre (andThen x (λ fs s. parsed (f ∷ fs) s)) ≡ asBytes (pre ++ (v ∷ [])) x
+as-bytes-more : (x : Parsed (List Bool)) (pre : List ℕ) (v : ℕ) (f : Bool) → asByte f ≡ v
+    → asBytes pre (andThen x (λ fs s. parsed (f ∷ fs) s)) ≡ asBytes (pre ++ (v ∷ [])) x
 unfolding andThen
-as-bytes-more (parsed fs s) pre v f e = ap (λ (l : List ℕ). parsed l s) (ap (λ (k : ℕ). pre ++ (k ∷ map asByte fs)) e ∙ sym (append-assoc pre (v ∷ []) (map asByte fs)))
+as-bytes-more (parsed fs s) pre v f e =
+    ap (λ (l : List ℕ). parsed l s) (ap (λ (k : ℕ). pre ++ (k ∷ map asByte fs)) e ∙ sym (append-assoc pre (v ∷ []) (map asByte fs)))
 as-bytes-more bad pre v f e = refl
 
 -- the byte of a flag less that of 0
@@ -90,7 +100,8 @@ module _ (text : List ℕ) (at n i : ℕ) (h : i < n) (l : at + i < length text)
   abbrev b : ℕ
   b = getD text (at + i) 0
 
-  parse-flags-one : parseFlags (n - i) (drop (at + i) text) ≡ cond (eqb b 48 || eqb b 49) (andThen (parseFlags (n - (i + 1)) (drop (at + (i + 1)) text)) λ fs r. parsed (eqb b 49 ∷ fs) r) bad
+  parse-flags-one : parseFlags (n - i) (drop (at + i) text)
+      ≡ cond (eqb b 48 || eqb b 49) (andThen (parseFlags (n - (i + 1)) (drop (at + (i + 1)) text)) λ fs r. parsed (eqb b 49 ∷ fs) r) bad
   unfolding parseFlags
   parse-flags-one =
       let m : n - i ≡ suc (n - (i + 1)) = omega arith in
@@ -104,16 +115,24 @@ module _ (text : List ℕ) (at n i : ℕ) (h : i < n) (l : at + i < length text)
       let e : parseFlags (n - i) (drop (at + i) text) ≡ bad = parse-flags-one ∙ rw (ne-eqb b 48 p, ne-eqb b 49 q) in
       rw e
 
-  pub parse-flags-turn : (b ≡ 48) ⊎ (b ≡ 49) → (out : List ℕ) → i < length out → asBytes (take i out) (parseFlags (n - i) (drop (at + i) text)) ≡ asBytes (take (i + 1) (set out i (b - 48))) (parseFlags (n - (i + 1)) (drop (at + (i + 1)) text))
+  pub parse-flags-turn : (b ≡ 48) ⊎ (b ≡ 49) → (out : List ℕ) → i < length out
+      → asBytes (take i out) (parseFlags (n - i) (drop (at + i) text)) ≡ asBytes (take (i + 1) (set out i (b - 48)))
+      (parseFlags (n - (i + 1)) (drop (at + (i + 1)) text))
   parse-flags-turn f out o =
-      let e : parseFlags (n - i) (drop (at + i) text) ≡ andThen (parseFlags (n - (i + 1)) (drop (at + (i + 1)) text)) (λ fs r. parsed (eqb b 49 ∷ fs) r) = parse-flags-one ∙ rw (flag-test b f) in
-      let t : take (i + 1) (set out i (b - 48)) ≡ take i out ++ ((b - 48) ∷ []) = ap (λ (k : ℕ). take k (set out i (b - 48))) (add-one i) ∙ take-suc-set out i (b - 48) o in
-      ap (asBytes (take i out)) e ∙ (as-bytes-more (parseFlags (n - (i + 1)) (drop (at + (i + 1)) text)) (take i out) (b - 48) (eqb b 49) (flag-as-byte b f) ∙ ap (λ (p : List ℕ). asBytes p (parseFlags (n - (i + 1)) (drop (at + (i + 1)) text))) (sym t))
+      let e : parseFlags (n - i) (drop (at + i) text)
+      ≡ andThen (parseFlags (n - (i + 1)) (drop (at + (i + 1)) text)) (λ fs r. parsed (eqb b 49 ∷ fs) r) =
+      parse-flags-one ∙ rw (flag-test b f) in
+      let t : take (i + 1) (set out i (b - 48)) ≡ take i out ++ ((b - 48) ∷ []) = ap (λ (k : ℕ). take k (set out i (b - 48))) (add-one i)
+      ∙ take-suc-set out i (b - 48) o in
+      ap (asBytes (take i out)) e
+      ∙ (as-bytes-more (parseFlags (n - (i + 1)) (drop (at + (i + 1)) text)) (take i out) (b - 48) (eqb b 49)
+      (flag-as-byte b f) ∙ ap (λ (p : List ℕ). asBytes p (parseFlags (n - (i + 1)) (drop (at + (i + 1)) text))) (sym t))
 
 -- ---- one thing after another
 
 module _ {A B : Type 0} (text : List ℕ) where
-  pub from-and-then : (p : Place) (f : List ℕ → Parsed A) (k : A → List ℕ → Parsed B) → parseFrom text p (λ t. andThen (f t) k) ≡ andThen (parseFrom text p f) k
+  pub from-and-then : (p : Place) (f : List ℕ → Parsed A) (k : A → List ℕ → Parsed B)
+      → parseFrom text p (λ t. andThen (f t) k) ≡ andThen (parseFrom text p f) k
   unfolding andThen
   from-and-then (At a) f k = refl
   from-and-then Nowhere f k = refl
@@ -124,7 +143,8 @@ module _ {A B : Type 0} (text : List ℕ) where
   and-then-from Nowhere v k = refl
 
   -- v was read from p on, up to r: what follows is read from r on
-  pub parse-next : (p r : Place) (v : A) (f : List ℕ → Parsed A) (k : A → List ℕ → Parsed B) → parseFrom text r (parsed v) ≡ parseFrom text p f → parseFrom text p (λ t. andThen (f t) k) ≡ parseFrom text r (k v)
+  pub parse-next : (p r : Place) (v : A) (f : List ℕ → Parsed A) (k : A → List ℕ → Parsed B)
+      → parseFrom text r (parsed v) ≡ parseFrom text p f → parseFrom text p (λ t. andThen (f t) k) ≡ parseFrom text r (k v)
   parse-next p r v f k e = from-and-then p f k ∙ (ap (λ (x : Parsed A). andThen x k) (sym e) ∙ and-then-from r v k)
 
 -- ---- the value of one digit or two
@@ -160,9 +180,11 @@ module _ {A : Type 0} (text : List ℕ) (k : List ℕ → Parsed A) where
 
 parse-number-out : (t : List ℕ) (v : ℕ) → v ≡ digitsValue t → ltb v 1 || ltb 48 v ≡ true → bad ≡ parseNumber t
 unfolding parseNumber
-parse-number-out t v e h = subst (λ (k : ℕ). bad ≡ cond (leb 1 k && leb k 48) (andThen (parseExactly (decimal k ++ (10 ∷ [])) t) λ _ r. parsed k r) bad) e (go (ltb v 1) (ltb 48 v) refl refl h)
+parse-number-out t v e h = subst (λ (k : ℕ). bad ≡ cond (leb 1 k && leb k 48)
+    (andThen (parseExactly (decimal k ++ (10 ∷ [])) t) λ _ r. parsed k r) bad) e (go (ltb v 1) (ltb 48 v) refl refl h)
   where
-    go : (a b : Bool) → ltb v 1 ≡ a → ltb 48 v ≡ b → a || b ≡ true → bad ≡ cond (leb 1 v && leb v 48) (andThen (parseExactly (decimal v ++ (10 ∷ [])) t) λ _ r. parsed v r) bad
+    go : (a b : Bool) → ltb v 1 ≡ a → ltb 48 v ≡ b → a || b ≡ true
+        → bad ≡ cond (leb 1 v && leb v 48) (andThen (parseExactly (decimal v ++ (10 ∷ [])) t) λ _ r. parsed v r) bad
     go true b p q h = rw (lt-leb 1 v (ltb-true v 1 p))
     go false true p q h = rw (le-leb 1 v (ltb-false v 1 p), lt-leb v 48 (ltb-true 48 v q))
     go false false p q h = absurd (let z : _≡_ {A = ℕ} 0 1 = cc in omega arith)
@@ -179,7 +201,9 @@ module _ (text : List ℕ) {p : Place} {at v : ℕ} (a : p ≡ At at) (e : v ≡
   pub parse-number-refused : ltb v 1 || ltb 48 v ≡ true → bad ≡ parseFrom text p parseNumber
   parse-number-refused h = from-at text parseNumber a (parse-number-out (drop at text) v e h)
 
-  pub number-parsed : (r : Place) → ltb v 1 || ltb 48 v ≡ false → parseFrom text r (parsed tt) ≡ parseExactly (decimal v ++ (10 ∷ [])) (drop at text) → parseFrom text r (parsed v) ≡ parseFrom text p parseNumber
+  pub number-parsed : (r : Place) → ltb v 1 || ltb 48 v ≡ false
+      → parseFrom text r (parsed tt) ≡ parseExactly (decimal v ++ (10 ∷ [])) (drop at text) → parseFrom text r
+      (parsed v) ≡ parseFrom text p parseNumber
   unfolding parseNumber
   number-parsed r h b =
       let l = number-limits v h in
@@ -211,7 +235,8 @@ no-flag b h = go (eqb b 48) (eqb b 49) refl refl h
     go false true x y h = absurd (let z : _≡_ {A = ℕ} 0 1 = cc in omega arith)
     go false false x y h = (eqb-false b 48 x, eqb-false b 49 y)
 
-pub parse-flags-all : (text out : List ℕ) (at n i : ℕ) → n ≤ i → i ≤ n → asBytes (take i out) (parseFlags (n - i) (drop (at + i) text)) ≡ parsed (take n out) (drop (at + i) text)
+pub parse-flags-all : (text out : List ℕ) (at n i : ℕ) → n ≤ i → i ≤ n
+    → asBytes (take i out) (parseFlags (n - i) (drop (at + i) text)) ≡ parsed (take n out) (drop (at + i) text)
 unfolding parseFlags andThen
 parse-flags-all text out at n i h l =
     let z : n - i ≡ 0 = omega arith in

@@ -17,7 +17,8 @@ use Rattle.clumps_text.specs.declared.ParsedShape.{ParsedShape}
 use Rattle.clumps_text.specs.Input.{TextFrame, Parsed, parsed, bad, andThen, parse}
 use Rattle.clumps_text.specs.Output.{asByte, frameStructure, refusalText, labelledText, outputTo, printed, clumpsOf}
 use Rattle.frame.specs.Overlay.{Holds}
-use Rattle.clumps_text.specs.Steps.{parseFrom, ByteFrame, frameBytes, parsedBytes, FrameParsed, isEmpty, endsAt, LabelReady, Labels, answerText}
+use Rattle.clumps_text.specs.Steps.{parseFrom, ByteFrame, frameBytes, parsedBytes, FrameParsed, isEmpty, endsAt, LabelReady, Labels}
+use Rattle.clumps_text.specs.Steps.{answerText}
 use Rattle.clumps_text.proofs.InputLaws.{through, same-read, same-rest, parse-back}
 use Rattle.clumps_text.proofs.FrameLaws.{product}
 
@@ -35,7 +36,8 @@ module _ (new rest : List ℕ) {n : ℕ} (h : length new ≡ n) where
 
 -- ---- labels printed
 
-pub ready : {w l : ℕ} {structure cells numbers : List ℕ} → LabelReady w l structure cells numbers 2304 → LabelReady w l structure (take (l * w) cells) (take (l * w) numbers) (l * w)
+pub ready : {w l : ℕ} {structure cells numbers : List ℕ} → LabelReady w l structure cells numbers 2304
+    → LabelReady w l structure (take (l * w) cells) (take (l * w) numbers) (l * w)
 ready {w} {l} {structure} {cells} {numbers} r =
     let p = product (r .most-lines) (r .most-width) in
     record {
@@ -48,12 +50,15 @@ ready {w} {l} {structure} {cells} {numbers} r =
       places = sym (prefix-long (l * w) numbers (omega (arith, r .places)));
     }
 
-pub labels-printed : {shape structure : List ℕ} {cells : List Bool} {a : Answer} {new : List ℕ} (numbers : List ℕ) {ys out : List ℕ} {at : ℕ} → numbers ≡ new → Labels shape structure cells a new → Holds (answerText a numbers) ys out at → Holds (outputTo shape structure cells) ys out at
+pub labels-printed : {shape structure : List ℕ} {cells : List Bool} {a : Answer} {new : List ℕ}
+    (numbers : List ℕ) {ys out : List ℕ} {at : ℕ} → numbers ≡ new → Labels shape structure cells a new → Holds
+    (answerText a numbers) ys out at → Holds (outputTo shape structure cells) ys out at
 unfolding outputTo
 labels-printed {shape} {structure} {cells} {a} numbers {ys} {out} {at} e l p =
     let f = figures shape (allFed shape structure cells) in
     let n = groupCount shape structure cells in
-    let x : answerText a numbers ≡ outputTo shape structure cells = ap (λ (b : Answer). answerText b numbers) (l .said) ∙ ap (labelledText n f) (e ∙ l .labelled) in
+    let x : answerText a numbers ≡ outputTo shape structure cells = ap (λ (b : Answer). answerText b numbers) (l .said)
+    ∙ ap (labelledText n f) (e ∙ l .labelled) in
     subst (λ (t : List ℕ). Holds t ys out at) x p
 
 -- ---- flags and bytes
@@ -107,7 +112,8 @@ module _ (text structure cells : List ℕ) (z : ParsedShape) (r : FrameParsed te
   pub whole : endsAt text (z .next) ≡ true → Whole text structure cells z
   whole e = whole-at (z .next) e (r .reads)
 
-  pub whole-ready : {numbers : List ℕ} → endsAt text (z .next) ≡ true → length structure ≡ 9 → length cells ≡ 2304 → length numbers ≡ 2304 → LabelReady (z .width) (z .lines) structure cells numbers 2304
+  pub whole-ready : {numbers : List ℕ} → endsAt text (z .next) ≡ true → length structure ≡ 9 → length cells ≡ 2304 → length numbers ≡ 2304
+      → LabelReady (z .width) (z .lines) structure cells numbers 2304
   whole-ready e s c n =
       let w = whole e in
       let a = parse-back text (w .frame) [] (w .is-read) .accepted in
@@ -121,13 +127,17 @@ module _ (text structure cells : List ℕ) (z : ParsedShape) (r : FrameParsed te
         places = n;
       }
 
-  pub whole-output : endsAt text (z .next) ≡ true → outputTo (z .lines ∷ z .width ∷ []) structure (map nz (take (z .lines * z .width) cells)) ≡ clumpsOf text
+  pub whole-output : endsAt text (z .next) ≡ true
+      → outputTo (z .lines ∷ z .width ∷ []) structure (map nz (take (z .lines * z .width) cells)) ≡ clumpsOf text
   unfolding clumpsOf printed
   whole-output e =
       let w = whole e in
       let f = w .frame in
       let a : clumpsOf text ≡ outputTo (f .lines ∷ f .width ∷ []) (frameStructure f) (f .cells) = ap printed (w .is-read) in
-      sym (a ∙ (ap (λ (k : ℕ). outputTo (k ∷ f .width ∷ []) (frameStructure f) (f .cells)) (w .lines) ∙ (ap (λ (k : ℕ). outputTo (z .lines ∷ k ∷ []) (frameStructure f) (f .cells)) (w .width) ∙ (ap (λ (s : List ℕ). outputTo (z .lines ∷ z .width ∷ []) s (f .cells)) (w .structure-is) ∙ ap (outputTo (z .lines ∷ z .width ∷ []) structure) (w .cells-are)))))
+      sym (a ∙ (ap (λ (k : ℕ). outputTo (k ∷ f .width ∷ []) (frameStructure f) (f .cells)) (w .lines)
+      ∙ (ap (λ (k : ℕ). outputTo (z .lines ∷ k ∷ []) (frameStructure f) (f .cells)) (w .width)
+      ∙ (ap (λ (s : List ℕ). outputTo (z .lines ∷ z .width ∷ []) s (f .cells)) (w .structure-is)
+      ∙ ap (outputTo (z .lines ∷ z .width ∷ []) structure) (w .cells-are)))))
 
   refused-with : (x : Parsed TextFrame) (t : List ℕ) → isEmpty t ≡ false → parsed taken t ≡ parsedBytes x → printed x ≡ refusalText 11
   unfolding parsedBytes andThen printed isEmpty
@@ -140,7 +150,8 @@ module _ (text structure cells : List ℕ) (z : ParsedShape) (r : FrameParsed te
   refused-bad (parsed f s) h = absurd (let y : _≡_ {A = ℕ} 0 1 = cc in omega arith)
   refused-bad bad h = refl
 
-  refused-at : (p : Place) → endsAt text p ≡ false → parseFrom text p (parsed taken) ≡ parsedBytes (parse text) → refusalText 11 ≡ clumpsOf text
+  refused-at : (p : Place) → endsAt text p ≡ false → parseFrom text p (parsed taken) ≡ parsedBytes (parse text)
+      → refusalText 11 ≡ clumpsOf text
   unfolding clumpsOf
   refused-at (At at) e h = sym (refused-with (parse text) (drop at text) e h)
   refused-at Nowhere e h = sym (refused-bad (parse text) h)

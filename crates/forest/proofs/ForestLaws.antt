@@ -82,9 +82,11 @@ module _ (p : ℕ → ℕ) where
     along R step (suc k) r h = let d = low r h in along R step k (p r) (omega arith) ∙ step r h
 
     -- only the root is the same at a run and at its parent, and at a root the run itself
-    pub root-unique : (R : ℕ → ℕ) → ((r : ℕ) → r < n → R (p r) ≡ R r) → ((r : ℕ) → r < n → p r ≡ r → R r ≡ r) → (r : ℕ) → r < n → rootOf p r ≡ R r
+    pub root-unique : (R : ℕ → ℕ) → ((r : ℕ) → r < n → R (p r) ≡ R r) → ((r : ℕ) → r < n → p r ≡ r → R r ≡ r) → (r : ℕ) → r < n
+        → rootOf p r ≡ R r
     unfolding rootOf
-    root-unique R step stop r h = let l = up-le r r h in sym (stop (up p r r) (omega arith) (up-root r r h (le-refl r))) ∙ along R step r r h
+    root-unique R step stop r h =
+        let l = up-le r r h in sym (stop (up p r r) (omega arith) (up-root r r h (le-refl r))) ∙ along R step r r h
 
     -- a run is a root exactly when it is its own
     pub own-root : (r : ℕ) → r < n → own p r ≡ eqb (rootOf p r) r
@@ -103,7 +105,8 @@ module _ (p : ℕ → ℕ) where
 
       pub number-groups : (r : ℕ) → r < n → numberIn p r ≡ number (λ k. true) es r
       unfolding numberIn number
-      number-groups r h = roots-groups (suc (rootOf p r)) (let l = root-le r h in omega arith) ∙ ap (λ (k : ℕ). groups (λ r. true) es (suc k)) (right r h)
+      number-groups r h =
+          roots-groups (suc (rootOf p r)) (let l = root-le r h in omega arith) ∙ ap (λ (k : ℕ). groups (λ r. true) es (suc k)) (right r h)
 
     -- ---- the grouping as edges
 
@@ -113,7 +116,8 @@ module _ (p : ℕ → ℕ) where
     edge-in zero r h = absurd (not-suc-le-zero h)
     edge-in (suc m) r h = go (ℕ-discrete r m) (edge-in m r)
       where
-        go : Dec (r ≡ m) → (r < m → List·Memᴰ (record { from = r; to = p r }) (grouping p m)) → List·Memᴰ (record { from = r; to = p r }) (record { from = m; to = p m } ∷ grouping p m)
+        go : Dec (r ≡ m) → (r < m → List·Memᴰ (record { from = r; to = p r }) (grouping p m))
+            → List·Memᴰ (record { from = r; to = p r }) (record { from = m; to = p m } ∷ grouping p m)
         go (yes e) below = List·Memᴰ·head (ap (λ (k : ℕ). record { from = k; to = p k }) e)
         go (no e) below = List·Memᴰ·tail (below (omega arith))
 
@@ -122,7 +126,8 @@ module _ (p : ℕ → ℕ) where
     edge-out zero e k = absurd (List·Memᴰ·not-nil k)
     edge-out (suc m) e k = go (List·Memᴰ·cases-cons k) (edge-out m e)
       where
-        go : (e ≡ record { from = m; to = p m }) ⊎ List·Memᴰ e (grouping p m) → (List·Memᴰ e (grouping p m) → (e .from < m) × (e .to ≡ p (e .from))) → (e .from < suc m) × (e .to ≡ p (e .from))
+        go : (e ≡ record { from = m; to = p m }) ⊎ List·Memᴰ e (grouping p m)
+            → (List·Memᴰ e (grouping p m) → (e .from < m) × (e .to ≡ p (e .from))) → (e .from < suc m) × (e .to ≡ p (e .from))
         go (inl q) below = let f = ap (λ (x : Edge). x .from) q in (omega arith, ap (λ (x : Edge). x .to) q ∙ ap p (sym f))
         go (inr q) below = let b = below q in (omega arith, b .1)
 
@@ -143,17 +148,20 @@ module _ (p : ℕ → ℕ) where
 
     linked-root : {r s : ℕ} → Linked es r s → rootOf p r ≡ rootOf p s
     linked-root one = refl
-    linked-root (more {a = a} {b = b} (inl m) h) = let o = edge-out n _ m in sym (root-parent a (o .0)) ∙ ap (rootOf p) (sym (o .1)) ∙ linked-root h
+    linked-root (more {a = a} {b = b} (inl m) h) =
+        let o = edge-out n _ m in sym (root-parent a (o .0)) ∙ ap (rootOf p) (sym (o .1)) ∙ linked-root h
     linked-root (more {a = a} {b = b} (inr m) h) = let o = edge-out n _ m in ap (rootOf p) (o .1) ∙ root-parent b (o .0) ∙ linked-root h
 
     -- each run's representative is its root
     pub grouping-rep : (r : ℕ) → r < n → rep es r ≡ rootOf p r
     grouping-rep r h =
         let below : rep es r < n = lt-of-le-of-lt (rep-le es r) h in
-        le-antisymm (rep-least es (root-linked r h)) (subst (λ (k : ℕ). k ≤ rep es r) (sym (linked-root (rep-linked es r))) (root-le (rep es r) below))
+        le-antisymm (rep-least es (root-linked r h))
+        (subst (λ (k : ℕ). k ≤ rep es r) (sym (linked-root (rep-linked es r))) (root-le (rep es r) below))
 
     -- hence other edges between these runs that give the roots give the same representatives everywhere
-    pub grouping-rep-all : (fs : List Edge) → Ends (λ r. r < n) fs → ((r : ℕ) → r < n → rootOf p r ≡ rep fs r) → (a : ℕ) → rep es a ≡ rep fs a
+    pub grouping-rep-all : (fs : List Edge) → Ends (λ r. r < n) fs → ((r : ℕ) → r < n → rootOf p r ≡ rep fs r) → (a : ℕ)
+        → rep es a ≡ rep fs a
     grouping-rep-all fs w right a = go (ltb a n) refl
       where
         go : (b : Bool) → ltb a n ≡ b → rep es a ≡ rep fs a
@@ -177,9 +185,12 @@ canonical-root p es n right r h =
     sym (root-parent p n (λ a l. rw (right a l) (rep-le es a)) r h) ∙ root-stays p (p r) own ∙ right r h
 
 -- parents with the same roots give the same numbers
-module _ (p q : ℕ → ℕ) (n : ℕ) (low-p : (r : ℕ) → r < n → p r ≤ r) (low-q : (r : ℕ) → r < n → q r ≤ r) (same : (r : ℕ) → r < n → rootOf p r ≡ rootOf q r) where
+module _ (p q : ℕ → ℕ) (n : ℕ) (low-p : (r : ℕ) → r < n → p r ≤ r) (low-q : (r : ℕ) → r < n → q r ≤ r)
+    (same : (r : ℕ) → r < n → rootOf p r ≡ rootOf q r) where
   roots-upto : (m : ℕ) → m ≤ n → roots p m ≡ roots q m
-  roots-upto m h = roots-groups p n low-p (grouping q n) (λ r l. same r l ∙ sym (grouping-rep q n low-q r l)) m h ∙ sym (roots-groups q n low-q (grouping q n) (λ r l. sym (grouping-rep q n low-q r l)) m h)
+  roots-upto m h =
+      roots-groups p n low-p (grouping q n) (λ r l. same r l ∙ sym (grouping-rep q n low-q r l)) m h
+      ∙ sym (roots-groups q n low-q (grouping q n) (λ r l. sym (grouping-rep q n low-q r l)) m h)
 
   pub numbers-same : (r : ℕ) → r < n → numberIn p r ≡ numberIn q r
   unfolding numberIn

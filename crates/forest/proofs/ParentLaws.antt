@@ -33,7 +33,12 @@ module _ (p : List ℕ) (x v : ℕ) (room : stride * suc x ≤ length p) where
   put-other r e = getD-set-other p (parentAt x) (parentAt r) v 0 (omega arith)
 
 pub put-kept : (p : List ℕ) (n x v : ℕ) → Parents p n → x < n → v ≤ x → ParentsOnly p (set p (parentAt x) v) n
-put-kept p n x v P h l = record { long = length-set p (parentAt x) v; others = λ j o. getD-set-other p (parentAt x) j v 0 (o x h); low = λ r m. go r m (ℕ-discrete r x) }
+put-kept p n x v P h l = record {
+  long = length-set p (parentAt x) v;
+  others = λ j o. getD-set-other p (parentAt x) j v 0
+      (o x h);
+  low = λ r m. go r m (ℕ-discrete r x);
+}
   where
     room : stride * suc x ≤ length p
     room = omega (arith, P .room)

@@ -39,12 +39,14 @@ reset-more p q a r l room R = record {
 
 -- the loop's end: no run above b where a is not, none at all where it is
 pub reset-end : (p q : List ℕ) (a b r : ℕ) → r ≤ max a b → b ≤ r → Reset p q a r → Reset p q a b
-reset-end p q a b r h l R = record { long = R .long; own = λ s m k. R .own s m (omega arith); others = λ j o. R .others j (λ s m k. o s m (omega arith)) }
+reset-end p q a b r h l R =
+    record { long = R .long; own = λ s m k. R .own s m (omega arith); others = λ j o. R .others j (λ s m k. o s m (omega arith)) }
 
 pub grouping-same : (f g : ℕ → ℕ) (n : ℕ) → ((r : ℕ) → r < n → f r ≡ g r) → grouping f n ≡ grouping g n
 unfolding grouping
 grouping-same f g zero h = refl
-grouping-same f g (suc n) h = ap₂ (λ (x : ℕ) (es : List Edge). record { from = n; to = x } ∷ es) (h n (le-refl (suc n))) (grouping-same f g n (λ r l. h r (omega arith)))
+grouping-same f g (suc n) h = ap₂ (λ (x : ℕ) (es : List Edge). record { from = n; to = x } ∷ es) (h n (le-refl (suc n)))
+    (grouping-same f g n (λ r l. h r (omega arith)))
 
 module _ (p : ℕ → ℕ) (n : ℕ) (self : p n ≡ n) where
   own-rep : (a : ℕ) → rep (grouping p (suc n)) a ≡ rep (grouping p n) a
@@ -75,7 +77,9 @@ module _ (p q : List ℕ) (a b : ℕ) (P : Parents p a) (room : stride * b ≤ l
       (λ h r. ap (λ (es : List Edge). rep es r) same) (λ m k below h r. own-rep (parentIn q) m (R .own m k h) r ∙ below (omega arith) r) m k
 
   joins-to : (m : ℕ) → a ≤ m → m ≤ b → joins (grouping (parentIn q) m) ≡ joins (grouping (parentIn p) a)
-  joins-to m k = le-ind (λ m. m ≤ b → joins (grouping (parentIn q) m) ≡ joins (grouping (parentIn p) a)) (λ h. ap joins same) (λ m k below h. own-joins (parentIn q) m (R .own m k h) ∙ below (omega arith)) m k
+  joins-to m k = le-ind (λ m. m ≤ b → joins (grouping (parentIn q) m) ≡ joins (grouping (parentIn p) a)) (λ h. ap joins same)
+      (λ m k below h. own-joins (parentIn q) m (R .own m k h) ∙ below (omega arith)) m k
 
-  pub reset-grouping : Parents q b × ((r : ℕ) → rep (grouping (parentIn q) b) r ≡ rep (grouping (parentIn p) a) r) × (joins (grouping (parentIn q) b) ≡ joins (grouping (parentIn p) a))
+  pub reset-grouping : Parents q b × ((r : ℕ) → rep (grouping (parentIn q) b) r ≡ rep (grouping (parentIn p) a) r)
+      × (joins (grouping (parentIn q) b) ≡ joins (grouping (parentIn p) a))
   reset-grouping = (record { room = omega (arith, R .long); low = low }, rep-to b l (le-refl b), joins-to b l (le-refl b))

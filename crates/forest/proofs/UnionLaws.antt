@@ -43,7 +43,8 @@ module _ (p : List ℕ) (n x : ℕ) (P : Parents p n) (h : x < n) where
   over-root = root-parent (parentIn p) n (P .low) (parentIn p x) (omega (arith, up-low)) ∙ root-parent (parentIn p) n (P .low) x h
 
   half-root : (r : ℕ) → r < n → rootOf (parentIn (half p x)) r ≡ rootOf (parentIn p) r
-  half-root = root-unique (parentIn (half p x)) n (half-kept .low) (rootOf (parentIn p)) (λ r m. step r m (ℕ-discrete r x)) (λ r m. stop r m (ℕ-discrete r x))
+  half-root = root-unique (parentIn (half p x)) n (half-kept .low) (rootOf (parentIn p)) (λ r m. step r m (ℕ-discrete r x))
+      (λ r m. stop r m (ℕ-discrete r x))
     where
       step : (r : ℕ) → r < n → Dec (r ≡ x) → rootOf (parentIn p) (parentIn (half p x) r) ≡ rootOf (parentIn p) r
       step r m (yes e) = rw (e, put-same p x (over p x) room) over-root
@@ -56,7 +57,8 @@ module _ (p : List ℕ) (n x : ℕ) (P : Parents p n) (h : x < n) where
       stop r m (no e) g = root-stays (parentIn p) r (sym (put-other p x (over p x) room r e) ∙ g)
 
 -- one turn of find, from run `at`
-pub found-half : (p₀ p : List ℕ) (n x at : ℕ) → Parents p₀ n → at < n → Found p₀ p n x (rootOf (parentIn p) at) → Found p₀ (half p at) n x (rootOf (parentIn (half p at)) (over p at))
+pub found-half : (p₀ p : List ℕ) (n x at : ℕ) → Parents p₀ n → at < n → Found p₀ p n x (rootOf (parentIn p) at)
+    → Found p₀ (half p at) n x (rootOf (parentIn (half p at)) (over p at))
 found-half p₀ p n x at P₀ h I = record {
   kept = kept-trans p₀ p _ n (I .kept) (half-kept p n at P h);
   same = λ r m. half-root p n at P h r m ∙ I .same r m;
@@ -99,7 +101,8 @@ module _ (p : List ℕ) (n x y : ℕ) (P : Parents p n) (hx : x < n) (hy : y < n
   linked-kept = put-kept p n hi lo P (omega arith) (omega arith)
 
   linked-root : (r : ℕ) → r < n → rootOf (parentIn (set p (parentAt (max x y)) (min x y))) r ≡ merge x y (rootOf (parentIn p) r)
-  linked-root = root-unique (parentIn q) n (linked-kept .low) (λ r. merge x y (rootOf (parentIn p) r)) (λ r m. step r m (ℕ-discrete r hi)) (λ r m. stop r (ℕ-discrete r hi))
+  linked-root = root-unique (parentIn q) n (linked-kept .low) (λ r. merge x y (rootOf (parentIn p) r)) (λ r m. step r m (ℕ-discrete r hi))
+      (λ r m. stop r (ℕ-discrete r hi))
     where
       q : List ℕ
       q = set p (parentAt hi) lo
@@ -109,7 +112,9 @@ module _ (p : List ℕ) (n x y : ℕ) (P : Parents p n) (hx : x < n) (hy : y < n
       step r m (no e) = rw (put-other p hi lo hi-room r e, root-parent (parentIn p) n (P .low) r m)
 
       stop : (r : ℕ) → Dec (r ≡ hi) → parentIn q r ≡ r → merge x y (rootOf (parentIn p) r) ≡ r
-      stop r (yes e) g = merge-hit x y (rootOf (parentIn p) r) (ap (rootOf (parentIn p)) e ∙ at-hi) ∙ sym (put-same p hi lo hi-room) ∙ ap (parentIn q) (sym e) ∙ g
+      stop r (yes e) g =
+          merge-hit x y (rootOf (parentIn p) r) (ap (rootOf (parentIn p)) e ∙ at-hi) ∙ sym (put-same p hi lo hi-room)
+          ∙ ap (parentIn q) (sym e) ∙ g
       stop r (no e) g =
           let self = root-stays (parentIn p) r (sym (put-other p hi lo hi-room r e) ∙ g) in
           merge-miss x y (rootOf (parentIn p) r) (λ k. e (sym self ∙ k)) ∙ self
@@ -155,7 +160,9 @@ module _ (p o q : List ℕ) (n a b ra rb : ℕ) (P : Parents p n) (ha : a < n) (
   both-idle e = record {
     kept = both .kept;
     told = sym (ap not (eq-eqb _ _ one));
-    grouped = λ r m. both .same r m ∙ sym (rep-idle (record { from = a; to = b }) (grouping (parentIn p) n) (at a ha ∙ one ∙ sym (at b hb)) r ∙ at r m);
+    grouped =
+        λ r m. both .same r m
+        ∙ sym (rep-idle (record { from = a; to = b }) (grouping (parentIn p) n) (at a ha ∙ one ∙ sym (at b hb)) r ∙ at r m);
   }
     where
       one : rootOf (parentIn p) a ≡ rootOf (parentIn p) b
@@ -185,7 +192,14 @@ module _ (p o q : List ℕ) (n a b ra rb : ℕ) (P : Parents p n) (ha : a < n) (
       in-b = omega (arith, C .low-b)
 
       right : (r : ℕ) → r < n → merge ra rb (rootOf (parentIn q) r) ≡ rep (record { from = a; to = b } ∷ grouping (parentIn p) n) r
-      right r m = unfold rep in rw (grouping-rep (parentIn p) n (P .low) a ha, grouping-rep (parentIn p) n (P .low) b hb, grouping-rep (parentIn p) n (P .low) r m, C .same r m, C .is-a, C .is-b)
+      right r m = unfold rep in rw (
+        grouping-rep (parentIn p) n (P .low) a ha,
+        grouping-rep (parentIn p) n (P .low) b hb,
+        grouping-rep (parentIn p) n (P .low) r m,
+        C .same r m,
+        C .is-a,
+        C .is-b,
+      )
 
 -- runs with one parent have one root
 module _ (p : List ℕ) (n a b : ℕ) (P : Parents p n) (ha : a < n) (hb : b < n) where

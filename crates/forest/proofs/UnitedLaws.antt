@@ -24,7 +24,12 @@ held p n = grouping (parentIn p) n
 
 module _ (p : List ℕ) (n : ℕ) (P : Parents p n) where
   pub united-none : United p p n [] 0
-  united-none = record { kept = kept-refl p n P; grouped = λ r h. sym (unfold visit in grouping-rep (parentIn p) n (P .low) r h); counted = unfold visit in omega arith }
+  united-none = record {
+    kept = kept-refl p n P;
+    grouped = λ r h. sym (unfold visit in grouping-rep (parentIn p) n (P .low) r h);
+    counted =
+        unfold visit in omega arith;
+  }
 
   -- one union
   module _ (q : List ℕ) (a b : ℕ) (t : Bool) (ha : a < n) (hb : b < n) (J : Union p q n a b t) where
@@ -33,7 +38,8 @@ module _ (p : List ℕ) (n : ℕ) (P : Parents p n) where
 
     joins-told : cond t 1 0 + joins (held p n) ≡ joins (e ∷ held p n)
     unfolding joins
-    joins-told = rw (J .told, grouping-rep (parentIn p) n (P .low) a ha, grouping-rep (parentIn p) n (P .low) b hb) (go (eqb (rootOf (parentIn p) a) (rootOf (parentIn p) b)))
+    joins-told = rw (J .told, grouping-rep (parentIn p) n (P .low) a ha, grouping-rep (parentIn p) n (P .low) b hb)
+        (go (eqb (rootOf (parentIn p) a) (rootOf (parentIn p) b)))
       where
         go : (x : Bool) → cond (not x) 1 0 + joins (held p n) ≡ cond x 0 1 + joins (held p n)
         go true = refl
@@ -51,8 +57,15 @@ module _ (p : List ℕ) (n : ℕ) (P : Parents p n) where
     pub united-then : (s : List ℕ) (fs : List Edge) (u : ℕ) → United q s n fs u → United p s n (es ++ fs) (t + u)
     united-then s fs u W = record {
       kept = kept-trans p q s n (U .kept) (W .kept);
-      grouped = λ r h. W .grouped r h ∙ rep-over fs (held q n) (visit es (held p n)) same r ∙ ap (λ (l : List Edge). rep l r) (sym (visit-append es fs (held p n)));
-      counted = rw (visit-append es fs (held p n)) (omega (arith, joins-over fs (held q n) (visit es (held p n)) same, U .counted, W .counted));
+      grouped =
+          λ r h. W .grouped r h ∙ rep-over fs (held q n) (visit es (held p n)) same r
+          ∙ ap (λ (l : List Edge). rep l r) (sym (visit-append es fs (held p n)));
+      counted = rw (visit-append es fs (held p n)) (omega (
+        arith,
+        joins-over fs (held q n) (visit es (held p n)) same,
+        U .counted,
+        W .counted,
+      ));
     }
       where
         same : (a : ℕ) → rep (held q n) a ≡ rep (visit es (held p n)) a
@@ -67,11 +80,15 @@ module _ (p : List ℕ) (n : ℕ) (P : Parents p n) where
         omega (arith, after, before, now, roots-grouping (parentIn p) n (P .low), U .counted)
 
     -- another list that joins the same runs
-    pub united-same : (fs : List Edge) → Ends (λ r. r < n) fs → ((a b : ℕ) → Groups.Joined es a b → Groups.Joined fs a b) → ((a b : ℕ) → Groups.Joined fs a b → Groups.Joined es a b) → United p q n fs t
+    pub united-same : (fs : List Edge) → Ends (λ r. r < n) fs → ((a b : ℕ) → Groups.Joined es a b → Groups.Joined fs a b)
+        → ((a b : ℕ) → Groups.Joined fs a b → Groups.Joined es a b) → United p q n fs t
     united-same fs v f g = record {
       kept = U .kept;
       grouped = λ r h. U .grouped r h ∙ rep-same (visit es (held p n)) (visit fs (held p n)) (over es fs f) (over fs es g) r;
-      counted = U .counted ∙ joins-same n (visit es (held p n)) (visit fs (held p n)) visit-ends (ends-visit (λ r. r < n) fs (held p n) v (grouping-ends (parentIn p) n (P .low))) (over es fs f) (over fs es g);
+      counted =
+          U .counted
+          ∙ joins-same n (visit es (held p n)) (visit fs (held p n)) visit-ends
+          (ends-visit (λ r. r < n) fs (held p n) v (grouping-ends (parentIn p) n (P .low))) (over es fs f) (over fs es g);
     }
       where
         old : List Edge

@@ -10,17 +10,22 @@ use Rattle.groups.specs.Numbers.{number}
 use Rattle.frame.specs.Shape.{size, width, leading, coords}
 use Rattle.frame.specs.Structure.{offset, backward, on, leftOn}
 use Rattle.frame.specs.ChainRule.{nonzero, sameList, any, leadsBy, step, edges, groupCount, label, range, labels, sizeOf, sizesOf}
-use Rattle.frame.specs.Runs.{goesOn, beginsRun, runs, Run, stretches, singles, lineRuns, lineOf, frameRuns, allRuns, runsBefore, frameRun}
+use Rattle.frame.specs.Runs.{goesOn, beginsRun, runs, Run, stretches, singles, lineRuns, lineOf, frameRuns, allRuns, runsBefore}
+use Rattle.frame.specs.Runs.{frameRun}
 use Rattle.frame.specs.Touches.{reaches, used, hasNbr, nbrLine, touchesBy, touchesOf, touches, frameTouches}
 use Rattle.frame.specs.Kinds.{nz, nzℤ, nzF, flags, u8, u16, u32, largest, holds}
 use Rattle.frame.specs.Memory.{perLine, wordsNeeded}
-use Rattle.frame.specs.Causes.{badRank, hasZero, tooLarge, firstCause, openTests, openCause, feedTests, feedCause, readTests, readCause, sizesTests, sizesCause, frameTests, frameCause}
+use Rattle.frame.specs.Causes.{badRank, hasZero, tooLarge, firstCause, openTests, openCause, feedTests, feedCause, readTests}
+use Rattle.frame.specs.Causes.{readCause, sizesTests, sizesCause, frameTests, frameCause}
 use Rattle.frame.specs.Plain.{unless, kept, feeds, groupsOf, figures, cause, answer, written, next, plain, session}
 use Rattle.frame.specs.Frames.{asked, nine, slips, refusals, frames}
 
 -- what the computation of a session opens
 computed : Unit {0}
-unfolding merge rep isRoot count groups gather pairs number size width leading coords offset backward on leftOn nonzero sameList any leadsBy step edges groupCount label range labels sizeOf sizesOf goesOn beginsRun runs nz nzℤ nzF flags largest holds perLine wordsNeeded badRank hasZero tooLarge firstCause openTests openCause feedTests feedCause readTests readCause sizesTests sizesCause unless kept feeds groupsOf figures cause answer written next plain session zipWith
+unfolding merge rep isRoot count groups gather pairs number size width leading coords offset backward on leftOn nonzero sameList any
+    leadsBy step edges groupCount label range labels sizeOf sizesOf goesOn beginsRun runs nz nzℤ nzF flags largest holds perLine
+    wordsNeeded badRank hasZero tooLarge firstCause openTests openCause feedTests feedCause readTests readCause sizesTests sizesCause
+    unless kept feeds groupsOf figures cause answer written next plain session zipWith
 computed = tt
 
 -- ---- the fact: every session of the list is answered as it stands there
@@ -139,5 +144,6 @@ worked =
     ∷ []
 
 touches-right : map work worked ≡ worked
-unfolding work worked stretches singles lineRuns lineOf frameRuns allRuns runsBefore frameRun reaches used hasNbr nbrLine touchesBy touchesOf touches computed
+unfolding work worked stretches singles lineRuns lineOf frameRuns allRuns runsBefore frameRun reaches used hasNbr nbrLine touchesBy
+    touchesOf touches computed
 touches-right = refl

@@ -12,7 +12,8 @@ use lib.ListN.{length}
 use Rattle.groups.proofs.BoolLaws.{or-left}
 use Rattle.frame.specs.Shape.{size, leading}
 use Rattle.frame.specs.Memory.{wordsNeeded}
-use Rattle.frame.specs.Causes.{badRank, hasZero, tooLarge, Test, when, firstCause, openTests, openCause, feedTests, feedCause, readTests, readCause, sizesTests, sizesCause, frameTests, frameCause}
+use Rattle.frame.specs.Causes.{badRank, hasZero, tooLarge, Test, when, firstCause, openTests, openCause, feedTests, feedCause}
+use Rattle.frame.specs.Causes.{readTests, readCause, sizesTests, sizesCause, frameTests, frameCause}
 
 -- ---- accepted
 
@@ -31,14 +32,16 @@ unfolding firstCause
 accepted [] r = (λ e. tt, λ h. refl)
 accepted (t ∷ ts) r = go (t .holds) refl (accepted ts (r .1))
   where
-    go : (b : Bool) → t .holds ≡ b → firstCause ts ≡ 0 ↔ NoneHolds ts → cond (t .holds) (t .number) (firstCause ts) ≡ 0 ↔ ((t .holds ≡ false) × NoneHolds ts)
+    go : (b : Bool) → t .holds ≡ b → firstCause ts ≡ 0 ↔ NoneHolds ts
+        → cond (t .holds) (t .number) (firstCause ts) ≡ 0 ↔ ((t .holds ≡ false) × NoneHolds ts)
     go true e i = (λ h. absurd (r .0 (rw e at h)), λ h. absurd (true≢false (sym e ∙ h .0)))
     go false e i = (λ h. (e, i .0 (rw e at h)), λ h. rw e (i .1 (h .1)))
 
 -- so of every call
 pub open-real : (shape structure : List ℕ) (memory : ℕ) → Real (openTests shape structure memory)
 unfolding openTests
-open-real shape structure memory = ((λ z. omega arith), ((λ z. omega arith), ((λ z. omega arith), ((λ z. omega arith), ((λ z. omega arith), tt)))))
+open-real shape structure memory =
+    ((λ z. omega arith), ((λ z. omega arith), ((λ z. omega arith), ((λ z. omega arith), ((λ z. omega arith), tt)))))
 
 pub feed-real : (sound : Bool) (left k w cells : ℕ) → Real (feedTests sound left k w cells)
 unfolding feedTests
@@ -54,8 +57,13 @@ sizes-real sound out n = ((λ z. omega arith), ((λ z. omega arith), tt))
 
 pub frame-real : (shape structure : List ℕ) (memory cells out : ℕ) (fits : Bool) → Real (frameTests shape structure memory cells out fits)
 unfolding frameTests openTests
-frame-real shape structure memory cells out fits =
-    ((λ z. omega arith), ((λ z. omega arith), ((λ z. omega arith), ((λ z. omega arith), ((λ z. omega arith), ((λ z. omega arith), ((λ z. omega arith), ((λ z. omega arith), tt))))))))
+frame-real shape structure memory cells out fits = (
+  (λ z. omega arith),
+  (
+    (λ z. omega arith),
+    ((λ z. omega arith), ((λ z. omega arith), ((λ z. omega arith), ((λ z. omega arith), ((λ z. omega arith), ((λ z. omega arith), tt)))))),
+  ),
+)
 
 -- the condition that two counts differ does not hold: they are equal
 same-count : (a b : ℕ) → not (eqb a b) ≡ false → a ≡ b
@@ -83,7 +91,14 @@ pub open-accepted : (shape structure : List ℕ) (memory : ℕ) → openCause sh
 unfolding openCause openTests
 open-accepted shape structure memory e =
     let h = accepted (openTests shape structure memory) (open-real shape structure memory) .0 e in
-    record { ranked = h .0; bytes = same-count (length structure) (3 ^ length shape) (h .1 .0); dimensions = h .1 .1 .0; limits = h .1 .1 .1 .0; enough = ltb-false memory (wordsNeeded shape structure) (h .1 .1 .1 .1 .0) }
+    record {
+      ranked = h .0;
+      bytes = same-count (length structure) (3 ^ length shape) (h .1 .0);
+      dimensions = h .1 .1 .0;
+      limits =
+          h .1 .1 .1 .0;
+      enough = ltb-false memory (wordsNeeded shape structure) (h .1 .1 .1 .1 .0);
+    }
 
 pub feed-accepted : (sound : Bool) (left k w cells : ℕ) → feedCause sound left k w cells ≡ 0 → (sound ≡ true) × (k ≤ left) × (cells ≡ k * w)
 unfolding feedCause feedTests
@@ -95,7 +110,8 @@ pub accepted-feed : (left k w cells : ℕ) → k ≤ left → cells ≡ k * w �
 unfolding feedCause feedTests firstCause
 accepted-feed left k w cells h e = rw (le-ltb left k h, eq-eqb cells (k * w) e)
 
-pub read-accepted : (sound : Bool) (out wanted : ℕ) (fits : Bool) → readCause sound out wanted fits ≡ 0 → (sound ≡ true) × (out ≡ wanted) × (fits ≡ true)
+pub read-accepted : (sound : Bool) (out wanted : ℕ) (fits : Bool) → readCause sound out wanted fits ≡ 0
+    → (sound ≡ true) × (out ≡ wanted) × (fits ≡ true)
 unfolding readCause readTests
 read-accepted sound out wanted fits e =
     let h = accepted (readTests sound out wanted fits) (read-real sound out wanted fits) .0 e in
@@ -117,17 +133,20 @@ unfolding sizesCause sizesTests firstCause
 accepted-sizes out n e = rw (eq-eqb out n e)
 
 -- what is known of a whole frame before anything is written: it opens, and its cells and its output are L × w
-pub frame-accepted : (shape structure : List ℕ) (memory cells out : ℕ) → frameCause shape structure memory cells out true ≡ 0 → (openCause shape structure memory ≡ 0) × (cells ≡ size shape) × (out ≡ size shape)
+pub frame-accepted : (shape structure : List ℕ) (memory cells out : ℕ) → frameCause shape structure memory cells out true ≡ 0
+    → (openCause shape structure memory ≡ 0) × (cells ≡ size shape) × (out ≡ size shape)
 unfolding frameCause frameTests openCause openTests
 frame-accepted shape structure memory cells out e =
     let h = accepted (frameTests shape structure memory cells out true) (frame-real shape structure memory cells out true) .0 e in (
-      accepted (openTests shape structure memory) (open-real shape structure memory) .1 (h .0, (h .1 .0, (h .1 .1 .0, (h .1 .1 .1 .0, (h .1 .1 .1 .1 .0, tt))))),
+      accepted (openTests shape structure memory) (open-real shape structure memory) .1
+          (h .0, (h .1 .0, (h .1 .1 .0, (h .1 .1 .1 .0, (h .1 .1 .1 .1 .0, tt))))),
       same-count cells (size shape) (h .1 .1 .1 .1 .1 .0),
       same-count out (size shape) (h .1 .1 .1 .1 .1 .1 .0),
     )
 
 -- and then its cause is a reading's
-pub frame-reads : (shape structure : List ℕ) (memory cells out : ℕ) (fits : Bool) → frameCause shape structure memory cells out true ≡ 0 → frameCause shape structure memory cells out fits ≡ readCause true out (size shape) fits
+pub frame-reads : (shape structure : List ℕ) (memory cells out : ℕ) (fits : Bool) → frameCause shape structure memory cells out true ≡ 0
+    → frameCause shape structure memory cells out fits ≡ readCause true out (size shape) fits
 unfolding frameCause frameTests openTests firstCause readCause readTests
 frame-reads shape structure memory cells out fits e =
     let h = accepted (frameTests shape structure memory cells out true) (frame-real shape structure memory cells out true) .0 e in
@@ -139,14 +158,17 @@ unfolding firstCause
 first-known [] us vs c z e = absurd (omega arith)
 first-known (t ∷ ts) us vs c z e = go (t .holds) e (first-known ts us vs c z)
   where
-    go : (b : Bool) → cond b (t .number) (firstCause (ts ++ us)) ≡ suc c → (firstCause (ts ++ us) ≡ suc c → firstCause (ts ++ vs) ≡ suc c) → cond b (t .number) (firstCause (ts ++ vs)) ≡ suc c
+    go : (b : Bool) → cond b (t .number) (firstCause (ts ++ us)) ≡ suc c → (firstCause (ts ++ us) ≡ suc c → firstCause (ts ++ vs) ≡ suc c)
+        → cond b (t .number) (firstCause (ts ++ vs)) ≡ suc c
     go true e i = e
     go false e i = i e
 
-pub frame-known : (shape structure : List ℕ) (memory cells out c : ℕ) (fits : Bool) → frameCause shape structure memory cells out true ≡ suc c → frameCause shape structure memory cells out fits ≡ suc c
+pub frame-known : (shape structure : List ℕ) (memory cells out c : ℕ) (fits : Bool)
+    → frameCause shape structure memory cells out true ≡ suc c → frameCause shape structure memory cells out fits ≡ suc c
 unfolding frameCause frameTests openTests
 frame-known shape structure memory cells out c fits e =
-    first-known (openTests shape structure memory ++ when (not (eqb cells (size shape))) 8 ∷ when (not (eqb out (size shape))) 9 ∷ []) (when (not true) 10 ∷ []) (when (not fits) 10 ∷ []) c (unfold firstCause in refl) e
+    first-known (openTests shape structure memory ++ when (not (eqb cells (size shape))) 8 ∷ when (not (eqb out (size shape))) 9 ∷ [])
+    (when (not true) 10 ∷ []) (when (not fits) 10 ∷ []) c (unfold firstCause in refl) e
 
 -- ---- 6 comes of an unsound record alone
 
@@ -166,11 +188,13 @@ never c (t ∷ ts) w e = go (t .holds) refl (never c ts (w .1)) e
 
 pub feed-six : (left k w cells : ℕ) → feedCause true left k w cells ≢ 6
 unfolding feedCause feedTests
-feed-six left k w cells = never 6 (feedTests true left k w cells) ((λ h. absurd (true≢false (sym h))), ((λ h z. omega arith), ((λ h z. omega arith), (λ z. omega arith))))
+feed-six left k w cells = never 6 (feedTests true left k w cells)
+    ((λ h. absurd (true≢false (sym h))), ((λ h z. omega arith), ((λ h z. omega arith), (λ z. omega arith))))
 
 pub read-six : (out wanted : ℕ) (fits : Bool) → readCause true out wanted fits ≢ 6
 unfolding readCause readTests
-read-six out wanted fits = never 6 (readTests true out wanted fits) ((λ h. absurd (true≢false (sym h))), ((λ h z. omega arith), ((λ h z. omega arith), (λ z. omega arith))))
+read-six out wanted fits = never 6 (readTests true out wanted fits)
+    ((λ h. absurd (true≢false (sym h))), ((λ h z. omega arith), ((λ h z. omega arith), (λ z. omega arith))))
 
 pub sizes-six : (out n : ℕ) → sizesCause true out n ≢ 6
 unfolding sizesCause sizesTests

@@ -19,7 +19,8 @@ use Rattle.groups.proofs.RepLaws.{Ends, ends-all}
 use Rattle.groups.proofs.NumberLaws.{number-right, number-unique, count-unique, numbered-over, numbered-same}
 use Rattle.frame.specs.Shape.{size, coords}
 use Rattle.frame.specs.Structure.{offset, backward, Moved, on}
-use Rattle.frame.specs.ChainRule.{nonzero, Leads, Step, Group, Labelled, sameList, any, leadsBy, step, edges, groupCount, label, range, labels}
+use Rattle.frame.specs.ChainRule.{nonzero, Leads, Step, Group, Labelled, sameList, any, leadsBy, step, edges, groupCount, label}
+use Rattle.frame.specs.ChainRule.{range, labels}
 
 -- ---- tests
 
@@ -46,7 +47,8 @@ unfolding sameList
 same-eq [] [] h = refl
 same-eq [] (y ∷ ys) h = absurd (true≢false (sym h))
 same-eq (x ∷ xs) [] h = absurd (true≢false (sym h))
-same-eq (x ∷ xs) (y ∷ ys) h = ap₂ (λ (a : ℕ) (l : List ℕ). a ∷ l) (eqb-true x y (and-left (eqb x y) _ h)) (same-eq xs ys (and-right (eqb x y) _ h))
+same-eq (x ∷ xs) (y ∷ ys) h =
+    ap₂ (λ (a : ℕ) (l : List ℕ). a ∷ l) (eqb-true x y (and-left (eqb x y) _ h)) (same-eq xs ys (and-right (eqb x y) _ h))
 
 same-refl : (xs : List ℕ) → sameList xs xs ≡ true
 unfolding sameList
@@ -61,14 +63,17 @@ module _ (shape structure : List ℕ) (p q : ℕ) where
   found-leads h =
       let r = any-found (leadsBy shape structure p q) (3 ^ length shape) h in
       let c = r .0 in
-      let b = and₃ (backward (offset (length shape) c)) (on structure c) (sameList (zipWith _+_ (coords shape p) (offset (length shape) c)) (map suc (coords shape q))) (r .2) in
+      let b = and₃ (backward (offset (length shape) c)) (on structure c)
+      (sameList (zipWith _+_ (coords shape p) (offset (length shape) c)) (map suc (coords shape q))) (r .2) in
       record { code = c; is-code = r .1; is-backward = b .0; is-on = b .1; leads = same-eq _ _ (b .2) }
 
   leads-found : Leads shape structure p q → any (leadsBy shape structure p q) (3 ^ length shape) ≡ true
   unfolding leadsBy Moved
   leads-found h =
       any-at (leadsBy shape structure p q) (3 ^ length shape) (h .code) (h .is-code)
-      (and-true _ _ (h .is-backward) (and-true _ _ (h .is-on) (subst (λ (l : List ℕ). sameList (zipWith _+_ (coords shape p) (offset (length shape) (h .code))) l ≡ true) (h .leads) (same-refl (zipWith _+_ (coords shape p) (offset (length shape) (h .code)))))))
+      (and-true _ _ (h .is-backward) (and-true _ _ (h .is-on)
+      (subst (λ (l : List ℕ). sameList (zipWith _+_ (coords shape p) (offset (length shape) (h .code))) l ≡ true) (h .leads)
+      (same-refl (zipWith _+_ (coords shape p) (offset (length shape) (h .code)))))))
 
 -- a fed nonzero cell is fed
 pub nonzero-below : (cells : List Bool) (p : ℕ) → nonzero cells p ≡ true → p < length cells
@@ -83,13 +88,16 @@ unfolding nonzero
 nonzero-beyond cells p h = List·getD-eq-default cells false h
 
 module _ (shape structure : List ℕ) (cells : List Bool) where
-  step-parts : (e : Edge) → List·Memᴰ e (edges shape structure cells) → (nonzero cells (e .from) ≡ true) × (nonzero cells (e .to) ≡ true) × Leads shape structure (e .from) (e .to)
+  step-parts : (e : Edge) → List·Memᴰ e (edges shape structure cells)
+      → (nonzero cells (e .from) ≡ true) × (nonzero cells (e .to) ≡ true) × Leads shape structure (e .from) (e .to)
   unfolding edges step
   step-parts e m =
-      let b = and₃ (nonzero cells (e .from)) (nonzero cells (e .to)) (any (leadsBy shape structure (e .from) (e .to)) (3 ^ length shape)) (pairs-from (step shape structure cells) 0 (length cells) 0 (length cells) e m .passes) in
+      let b = and₃ (nonzero cells (e .from)) (nonzero cells (e .to)) (any (leadsBy shape structure (e .from) (e .to)) (3 ^ length shape))
+      (pairs-from (step shape structure cells) 0 (length cells) 0 (length cells) e m .passes) in
       (b .0, b .1, found-leads shape structure (e .from) (e .to) (b .2))
 
-  pub step-edge : (p q : ℕ) → nonzero cells p ≡ true → nonzero cells q ≡ true → Leads shape structure p q → List·Memᴰ (record { from = p; to = q }) (edges shape structure cells)
+  pub step-edge : (p q : ℕ) → nonzero cells p ≡ true → nonzero cells q ≡ true → Leads shape structure p q
+      → List·Memᴰ (record { from = p; to = q }) (edges shape structure cells)
   unfolding edges step
   step-edge p q a b l =
       from-pairs (step shape structure cells) 0 (length cells) 0 (length cells) (record { from = p; to = q })
@@ -132,23 +140,29 @@ module _ (shape structure : List ℕ) (cells : List Bool) where
   -- the computed numbers are those of the chain rule
   pub label-right : Labelled shape structure cells (groupCount shape structure cells) (label shape structure cells)
   unfolding groupCount label
-  label-right = numbered-over (λ a b h. chain-map joined-step h) (λ a b h. chain-map step-joined h) (number-right (nonzero cells) (edges shape structure cells) nonzero-ends (size shape))
+  label-right = numbered-over (λ a b h. chain-map joined-step h) (λ a b h. chain-map step-joined h)
+      (number-right (nonzero cells) (edges shape structure cells) nonzero-ends (size shape))
 
   -- one number exactly for one group
-  pub label-group : (p q : ℕ) → p < size shape → q < size shape → nonzero cells p ≡ true → nonzero cells q ≡ true → (label shape structure cells p ≡ label shape structure cells q) ↔ Group shape structure cells p q
+  pub label-group : (p q : ℕ) → p < size shape → q < size shape → nonzero cells p ≡ true → nonzero cells q ≡ true
+      → (label shape structure cells p ≡ label shape structure cells q) ↔ Group shape structure cells p q
   label-group p q hp hq a b = let s = label-right .same p q hp hq a b in (λ e. (a, s .0 e), λ g. s .1 (g .1))
 
   -- whatever numbers the groups of the chain rule has these numbers, and this count
   module _ (n : ℕ) (ν : ℕ → ℕ) (N : Labelled shape structure cells n ν) where
     pub label-only : (p : ℕ) → p < size shape → ν p ≡ label shape structure cells p
     label-only p h =
-        number-unique (nonzero cells) (edges shape structure cells) nonzero-ends (size shape) n (groupCount shape structure cells) ν (label shape structure cells)
-        (numbered-over (λ a b h. chain-map step-joined h) (λ a b h. chain-map joined-step h) N) (numbered-over (λ a b h. chain-map step-joined h) (λ a b h. chain-map joined-step h) label-right) p h
+        number-unique (nonzero cells) (edges shape structure cells) nonzero-ends (size shape) n (groupCount shape structure cells) ν
+        (label shape structure cells)
+        (numbered-over (λ a b h. chain-map step-joined h) (λ a b h. chain-map joined-step h) N)
+        (numbered-over (λ a b h. chain-map step-joined h) (λ a b h. chain-map joined-step h) label-right) p h
 
     pub count-only : n ≡ groupCount shape structure cells
     count-only =
-        count-unique (nonzero cells) (edges shape structure cells) nonzero-ends (size shape) n (groupCount shape structure cells) ν (label shape structure cells)
-        (numbered-over (λ a b h. chain-map step-joined h) (λ a b h. chain-map joined-step h) N) (numbered-over (λ a b h. chain-map step-joined h) (λ a b h. chain-map joined-step h) label-right)
+        count-unique (nonzero cells) (edges shape structure cells) nonzero-ends (size shape) n (groupCount shape structure cells) ν
+        (label shape structure cells)
+        (numbered-over (λ a b h. chain-map step-joined h) (λ a b h. chain-map joined-step h) N)
+        (numbered-over (λ a b h. chain-map step-joined h) (λ a b h. chain-map joined-step h) label-right)
 
 -- ---- the numbers as a list
 
@@ -183,7 +197,8 @@ module _ (shape structure : List ℕ) (cells : List Bool) where
   pub labels-right : Labelled shape structure cells (groupCount shape structure cells) (λ p. getD (labels shape structure cells) p 0)
   labels-right = numbered-same (label shape structure cells) _ (λ p h. sym (labels-at p h)) (label-right shape structure cells)
 
-  pub labels-only : (n : ℕ) (ns : List ℕ) → length ns ≡ size shape → Labelled shape structure cells n (λ p. getD ns p 0) → ns ≡ labels shape structure cells
+  pub labels-only : (n : ℕ) (ns : List ℕ) → length ns ≡ size shape → Labelled shape structure cells n (λ p. getD ns p 0)
+      → ns ≡ labels shape structure cells
   labels-only n ns l N =
       ext-getD 0 ns (labels shape structure cells) (l ∙ sym length-labels)
       (λ i h. label-only shape structure cells n _ N i (subst (λ (k : ℕ). i < k) l h) ∙ sym (labels-at i (subst (λ (k : ℕ). i < k) l h)))

@@ -18,11 +18,13 @@ use Rattle.groups.proofs.GatherLaws.{gather-snoc, gather-split}
 use Rattle.frame.specs.Shape.{size, width, lines}
 use Rattle.frame.specs.Structure.{leftOn}
 use Rattle.frame.specs.ChainRule.{nonzero}
-use Rattle.frame.specs.Runs.{goesOn, beginsRun, runs, runOf, Run, none, Covers, gapOf, lineOf, frameRuns, allRuns, runsBefore, frameRun}
+use Rattle.frame.specs.Runs.{goesOn, beginsRun, runs, runOf, Run, none, Covers, gapOf, lineOf, frameRuns, allRuns, runsBefore}
+use Rattle.frame.specs.Runs.{frameRun}
 use Rattle.frame.specs.Memory.{perLine}
 use Rattle.frame.proofs.ShapeLaws.{factor-pos, Fits, fits-size}
 use Rattle.frame.proofs.ChainRuleLaws.{nonzero-below}
-use Rattle.frame.proofs.LineLaws.{In, Apart, begun, line-in, line-held, line-length, line-apart, line-few, Within, apart-at, apart-next, in-below, before, before-zero, before-suc, begun-zero, begun-step}
+use Rattle.frame.proofs.LineLaws.{In, Apart, begun, line-in, line-held, line-length, line-apart, line-few, Within, apart-at}
+use Rattle.frame.proofs.LineLaws.{apart-next, in-below, before, before-zero, before-suc, begun-zero, begun-step}
 use Rattle.frame.proofs.RunLaws.{startOf, nonzero-under, run-below, start-right, runs-counted}
 
 module _ (shape structure : List ℕ) (cells : List Bool) where
@@ -106,7 +108,9 @@ module _ (shape structure : List ℕ) (cells : List Bool) where
   located (suc n) r h = go (ltb r (S n)) refl (located n r)
     where
       go : (b : Bool) → ltb r (S n) ≡ b → (r < S n → Located n r) → Located (suc n) r
-      go true t before = let k = before (ltb-true _ _ t) in record { line-of = k .line-of; is-line = omega (arith, k .is-line); low = k .low; high = k .high }
+      go true t before =
+          let k = before (ltb-true _ _ t) in
+          record { line-of = k .line-of; is-line = omega (arith, k .is-line); low = k .low; high = k .high }
       go false t before = record { line-of = n; is-line = le-refl (suc n); low = ltb-false _ _ t; high = h }
 
   -- ---- a line's cells
@@ -264,7 +268,8 @@ module _ (shape structure : List ℕ) (cells : List Bool) where
     -- runs are numbered in C order of the cells that begin them: run i of line ℓ begins with the cell at its start
     pub first-cell : (ℓ i : ℕ) → i < length (R ℓ) → startOf shape structure cells (S ℓ + i) ≡ ℓ * w + getD (R ℓ) i none .start
     unfolding frameRuns
-    first-cell ℓ i h = placed-only begins (size shape) (S ℓ + i) _ _ (start-right shape structure cells fits (S ℓ + i) less) (go s refl (left && before false (line ℓ) s) refl)
+    first-cell ℓ i h = placed-only begins (size shape) (S ℓ + i) _ _ (start-right shape structure cells fits (S ℓ + i) less)
+        (go s refl (left && before false (line ℓ) s) refl)
       where
         fits : length cells ≤ size shape
         fits = fits-size shape n cells F
@@ -276,7 +281,8 @@ module _ (shape structure : List ℕ) (cells : List Bool) where
         holds = (le-refl s, within ℓ i h .full)
 
         less : S ℓ + i < runs shape structure cells
-        less = subst (λ (k : ℕ). k < runs shape structure cells) (in-run ℓ i s holds) (run-below shape structure cells fits (ℓ * w + s) (in-nonzero ℓ i s holds))
+        less = subst (λ (k : ℕ). k < runs shape structure cells) (in-run ℓ i s holds)
+            (run-below shape structure cells fits (ℓ * w + s) (in-nonzero ℓ i s holds))
 
         begins-at : (left && before false (line ℓ) s) ≡ false → begins (ℓ * w + s) ≡ true
         begins-at e = begins-line ℓ s (column ℓ i s holds) ∙ rw e (and-true _ _ (line-in left (line ℓ) i s holds .0) refl)
@@ -290,12 +296,19 @@ module _ (shape structure : List ℕ) (cells : List Bool) where
             }
         go zero q true e = absurd (true≢false (sym (and-right left _ e) ∙ ap (before false (line ℓ)) q ∙ before-zero false (line ℓ)))
         go (suc k) q true e =
-            let a : getD (line ℓ) k false ≡ true = sym (before-suc false (line ℓ) k) ∙ ap (before false (line ℓ)) (sym q) ∙ and-right left _ e in
+            let a : getD (line ℓ) k false ≡ true = sym (before-suc false (line ℓ) k) ∙ ap (before false (line ℓ)) (sym q)
+            ∙ and-right left _ e in
             let r = line-held left (line ℓ) k a in
-            let none-begins : (getD (line ℓ) s false && not (left && before false (line ℓ) s)) ≡ false = rw e (and-none (getD (line ℓ) s false)) in
+            let none-begins : (getD (line ℓ) s false && not (left && before false (line ℓ) s)) ≡ false = rw e
+            (and-none (getD (line ℓ) s false)) in
             let c = ap {B = ℕ} (λ (t : Bool). cond t 1 0) none-begins in
             let same : begun left false (line ℓ) s ≡ begun left false (line ℓ) (suc k) = ap (begun left false (line ℓ)) q in
-            let j : r .0 ≡ i = omega (arith, line-in left (line ℓ) (r .0) k (r .1) .1, line-in left (line ℓ) i s holds .1, begun-step left false (line ℓ) s) in
+            let j : r .0 ≡ i = omega (
+              arith,
+              line-in left (line ℓ) (r .0) k (r .1) .1,
+              line-in left (line ℓ) i s holds .1,
+              begun-step left false (line ℓ) s,
+            ) in
             let bad : s ≤ k = subst (λ (m : ℕ). getD (R ℓ) m none .start ≤ k) j (r .1 .0) in
             absurd (omega arith)
           where

@@ -24,7 +24,11 @@ line-stays : (w : ℕ) (cells more : List Bool) (ℓ : ℕ) → suc ℓ * w ≤ 
 unfolding lineOf
 line-stays w cells more ℓ h =
     let a : ℓ * w ≤ length cells = omega (arith, suc-mul ℓ w) in
-    ap (take w) (drop-append-le (ℓ * w) cells more a) ∙ take-append-le w (drop (ℓ * w) cells) more (omega (arith, suc-mul ℓ w, length-drop (ℓ * w) cells))
+    ap (take w) (drop-append-le (ℓ * w) cells more a) ∙ take-append-le w (drop (ℓ * w) cells) more (omega (
+      arith,
+      suc-mul ℓ w,
+      length-drop (ℓ * w) cells,
+    ))
 
 -- a new line has the new cells alone
 line-new : (w : ℕ) (cells more : List Bool) (n i : ℕ) → length cells ≡ n * w → lineOf w (cells ++ more) (n + i) ≡ lineOf w more i
@@ -34,13 +38,15 @@ line-new w cells more n i e =
     ap (λ (k : ℕ). take w (drop k (cells ++ more))) a ∙ ap (take w) (drop-append-add cells more (i * w))
 
 -- a run of the first n lines is found among those alone
-run-first : (shape structure : List ℕ) (cells : List Bool) (n r : ℕ) → n ≤ lines shape → r < runsBefore shape structure cells n → frameRun shape structure cells r ≡ getD (allRuns shape structure cells n) r none
+run-first : (shape structure : List ℕ) (cells : List Bool) (n r : ℕ) → n ≤ lines shape → r < runsBefore shape structure cells n
+    → frameRun shape structure cells r ≡ getD (allRuns shape structure cells n) r none
 unfolding frameRun runsBefore allRuns
 run-first shape structure cells n r h l =
     let e : lines shape ≡ n + (lines shape - n) = omega arith in
     ap (λ (m : ℕ). getD (gather (frameRuns shape structure cells) 0 m) r none) e
     ∙ ap (λ (rs : List Run). getD rs r none) (gather-split (frameRuns shape structure cells) 0 n (lines shape - n))
-    ∙ List·getD-append (gather (frameRuns shape structure cells) 0 n) (gather (frameRuns shape structure cells) (0 + n) (lines shape - n)) none r l
+    ∙ List·getD-append (gather (frameRuns shape structure cells) 0 n) (gather (frameRuns shape structure cells) (0 + n) (lines shape - n))
+    none r l
 
 module _ (shape structure : List ℕ) (cells more : List Bool) (n : ℕ) (F : Fits shape n cells) where
   -- the runs of each line, how many stand before it, the runs by number, and the touches of n lines from line a on: of the old
@@ -73,7 +79,8 @@ module _ (shape structure : List ℕ) (cells more : List Bool) (n : ℕ) (F : Fi
 
   pub runs-stay : (ℓ : ℕ) → ℓ < n → R′ ℓ ≡ R ℓ
   unfolding frameRuns
-  runs-stay ℓ h = ap (lineRuns (leftOn shape structure)) (line-stays (width shape) cells more ℓ (rw (F .whole) (mul-le-mul-right (width shape) h)))
+  runs-stay ℓ h =
+      ap (lineRuns (leftOn shape structure)) (line-stays (width shape) cells more ℓ (rw (F .whole) (mul-le-mul-right (width shape) h)))
 
   pub runs-new : (i : ℕ) → R′ (n + i) ≡ lineRuns (leftOn shape structure) (lineOf (width shape) more i)
   unfolding frameRuns
@@ -118,7 +125,8 @@ module _ (shape structure : List ℕ) (cells more : List Bool) (n : ℕ) (F : Fi
   run-new k r h l =
       let less : S n + r < S′ (n + k) = omega (arith, starts-new k) in
       run-first shape structure (cells ++ more) (n + k) (S n + r) h less
-      ∙ ap (λ (rs : List Run). getD rs (S n + r) none) (runs-grow k ∙ ap (λ (rs : List Run). allRuns shape structure cells n ++ rs) (gather-new k))
+      ∙ ap (λ (rs : List Run). getD rs (S n + r) none)
+      (runs-grow k ∙ ap (λ (rs : List Run). allRuns shape structure cells n ++ rs) (gather-new k))
       ∙ getD-append-add (allRuns shape structure cells n) (allRuns shape structure more k) r none
       ∙ sym (run-first shape structure more k r (omega arith) l)
 

@@ -65,14 +65,16 @@ open-only (false ∷ l) s x (suc i) y g h = let k = low-off l s (suc x) i y h in
 mutual
   unfolding stretches begun
 
-  in-off : (l : List Bool) (s x y d i : ℕ) → y ≡ x + d → In (stretches false s x l) i y → (getD l d false ≡ true) × (begun true false l (suc d) ≡ suc i)
+  in-off : (l : List Bool) (s x y d i : ℕ) → y ≡ x + d → In (stretches false s x l) i y
+      → (getD l d false ≡ true) × (begun true false l (suc d) ≡ suc i)
   in-off [] s x y d i e h = nowhere i y h
   in-off (false ∷ l) s x y zero i e h = let k = low-off l s (suc x) i y h in absurd (omega arith)
   in-off (false ∷ l) s x y (suc d) i e h = let r = in-off l s (suc x) y d i (omega arith) h in (r .0, omega (arith, r .1))
   in-off (true ∷ l) s x y zero i e h = let k = open-only l x (suc x) i y (omega arith) h in (refl, omega arith)
   in-off (true ∷ l) s x y (suc d) i e h = let r = in-on l x (suc x) y d i (omega arith) h in (r .0, omega (arith, r .1))
 
-  in-on : (l : List Bool) (s x y d i : ℕ) → y ≡ x + d → In (stretches true s x l) i y → (getD l d false ≡ true) × (begun true true l (suc d) ≡ i)
+  in-on : (l : List Bool) (s x y d i : ℕ) → y ≡ x + d → In (stretches true s x l) i y
+      → (getD l d false ≡ true) × (begun true true l (suc d) ≡ i)
   in-on [] s x y d zero e h = absurd (omega (arith, h .1))
   in-on [] s x y d (suc i) e h = past none i y h
   in-on (true ∷ l) s x y zero i e h = let k = open-only l s (suc x) i y (omega arith) h in (refl, omega arith)
@@ -156,7 +158,8 @@ low-singles (false ∷ l) x i y h = let k = low-singles l (suc x) i y h in omega
 low-singles (true ∷ l) x zero y h = h .0
 low-singles (true ∷ l) x (suc i) y h = let k = low-singles l (suc x) i y h in omega arith
 
-in-singles : (l : List Bool) (prev : Bool) (x y d i : ℕ) → y ≡ x + d → In (singles x l) i y → (getD l d false ≡ true) × (begun false prev l (suc d) ≡ suc i)
+in-singles : (l : List Bool) (prev : Bool) (x y d i : ℕ) → y ≡ x + d → In (singles x l) i y
+    → (getD l d false ≡ true) × (begun false prev l (suc d) ≡ suc i)
 unfolding singles begun
 in-singles [] prev x y d i e h = nowhere i y h
 in-singles (false ∷ l) prev x y zero i e h = let k = low-singles l (suc x) i y h in absurd (omega arith)
@@ -186,7 +189,13 @@ apart-singles : (l : List Bool) (x w : ℕ) → x + length l ≤ w → Apart 0 x
 unfolding singles
 apart-singles [] x w e = tt
 apart-singles (false ∷ l) x w e = weaken (singles (suc x) l) 0 (suc x) x w (omega arith) (apart-singles l (suc x) w (omega arith))
-apart-singles (true ∷ l) x w e = (le-refl x, le-refl (suc x), omega arith, weaken (singles (suc x) l) 0 (suc x) (suc x + 0) w (omega arith) (apart-singles l (suc x) w (omega arith)))
+apart-singles (true ∷ l) x w e = (
+  le-refl x,
+  le-refl (suc x),
+  omega arith,
+  weaken (singles (suc x) l) 0 (suc x) (suc x + 0) w (omega arith)
+      (apart-singles l (suc x) w (omega arith)),
+)
 
 few-singles : (l : List Bool) (x : ℕ) → length (singles x l) ≤ length l
 unfolding singles
@@ -197,7 +206,8 @@ few-singles (true ∷ l) x = let h = few-singles l (suc x) in omega arith
 -- ---- either
 
 -- the i-th run holds exactly the nonzero columns up to which i + 1 runs begin
-pub line-in : (left : Bool) (l : List Bool) (i x : ℕ) → In (lineRuns left l) i x → (getD l x false ≡ true) × (begun left false l (suc x) ≡ suc i)
+pub line-in : (left : Bool) (l : List Bool) (i x : ℕ) → In (lineRuns left l) i x
+    → (getD l x false ≡ true) × (begun left false l (suc x) ≡ suc i)
 unfolding lineRuns
 line-in true l i x h = in-off l 0 0 x x i (sym (zero-add x)) h
 line-in false l i x h = in-singles l false 0 x x i (sym (zero-add x)) h
@@ -246,7 +256,8 @@ apart-low (r ∷ rs) gap lo w zero a h = a .0
 apart-low (r ∷ rs) gap lo w (suc i) a h = omega (arith, apart-low rs gap (r .end + gap) w i (a .3) (omega arith), a .0, a .1)
 
 -- the next run starts past the end of the one before
-pub apart-next : (rs : List Run) (gap lo w i j : ℕ) → Apart gap lo w rs → i < j → j < length rs → getD rs i none .end + gap ≤ getD rs j none .start
+pub apart-next : (rs : List Run) (gap lo w i j : ℕ) → Apart gap lo w rs → i < j → j < length rs
+    → getD rs i none .end + gap ≤ getD rs j none .start
 apart-next [] gap lo w i j a l h = absurd (not-suc-le-zero h)
 apart-next (r ∷ rs) gap lo w i zero a l h = absurd (not-suc-le-zero l)
 apart-next (r ∷ rs) gap lo w zero (suc j) a l h = apart-low rs gap (r .end + gap) w j (a .3) (omega arith)
@@ -281,11 +292,13 @@ pub begun-zero : (left prev : Bool) (l : List Bool) → begun left prev l 0 ≡ 
 unfolding begun
 begun-zero left prev l = refl
 
-pub begun-step : (left prev : Bool) (l : List Bool) (x : ℕ) → begun left prev l (suc x) ≡ cond (getD l x false && not (left && before prev l x)) 1 0 + begun left prev l x
+pub begun-step : (left prev : Bool) (l : List Bool) (x : ℕ)
+    → begun left prev l (suc x) ≡ cond (getD l x false && not (left && before prev l x)) 1 0 + begun left prev l x
 unfolding begun before
 begun-step left prev [] zero = refl
 begun-step left prev [] (suc x) = refl
 begun-step left prev (b ∷ l) zero = refl
 begun-step left prev (b ∷ l) (suc x) =
-    let i : begun left b l (suc x) ≡ cond (getD l x false && not (left && getD (b ∷ l) x false)) 1 0 + begun left b l x = rw (← before-cons b l x) (begun-step left b l x) in
+    let i : begun left b l (suc x) ≡ cond (getD l x false && not (left && getD (b ∷ l) x false)) 1 0 + begun left b l x =
+    rw (← before-cons b l x) (begun-step left b l x) in
     omega arith

@@ -22,7 +22,8 @@ use Rattle.frame.specs.ChainRule.{nonzero, Leads, Step}
 use Rattle.frame.specs.Runs.{goesOn, beginsRun, runOf, Run, runsBefore, frameRun}
 use Rattle.frame.specs.Touches.{reaches, used, hasNbr, nbrLine, frameTouches}
 use Rattle.frame.proofs.ShapeLaws.{length-leading, length-coords, coords-inj, Fits, fits-size}
-use Rattle.frame.proofs.StructureLaws.{mid, twice-mid, next-mid, backward-mid, length-offset, offset-mid, left-on, moved-only, moved-still, line-moved}
+use Rattle.frame.proofs.StructureLaws.{mid, twice-mid, next-mid, backward-mid, length-offset, offset-mid, left-on, moved-only}
+use Rattle.frame.proofs.StructureLaws.{moved-still, line-moved}
 use Rattle.frame.proofs.ChainRuleLaws.{step-flip}
 use Rattle.frame.proofs.RunLaws.{startOf, RunStep, nonzero-under, chain-start, lift-step}
 use Rattle.frame.proofs.FrameRunLaws.{run-within, run-cells, line-below, InRun, cell-run}
@@ -38,7 +39,8 @@ three-on f (suc (suc zero)) h o = or-right (f 0) (f 1 || f 2) (or-right (f 1) (f
 three-on f (suc (suc (suc t))) h o = absurd (omega arith)
 
 -- the offset before the centre's leads to the cell before, in the same line
-one-left : (shape : List ℕ) (p q c : ℕ) → 0 < length shape → c < 3 ^ length shape → c ≡ 3 * mid (length (leading shape)) → p < size shape → q < size shape → p / width shape < lines shape → q / width shape < lines shape
+one-left : (shape : List ℕ) (p q c : ℕ) → 0 < length shape → c < 3 ^ length shape → c ≡ 3 * mid (length (leading shape)) → p < size shape
+    → q < size shape → p / width shape < lines shape → q / width shape < lines shape
     → Moved (coords shape p) (offset (length shape) c) (coords shape q) → (p ≡ suc q) × (p % width shape ≡ 0 → ⊥)
 one-left shape p q c ranked hc e hp hq lp lq m = (
   omega (arith, div-add-mod' p (width shape), div-add-mod' q (width shape), ap (λ (k : ℕ). k * width shape) line, move .1, last),
@@ -48,7 +50,8 @@ one-left shape p q c ranked hc e hp hq lp lq m = (
     ds : List ℕ
     ds = leading shape
 
-    move : Moved (coords ds (p / width shape)) (offset (length ds) (c / 3)) (coords ds (q / width shape)) × (p % width shape + c % 3 ≡ suc (q % width shape))
+    move : Moved (coords ds (p / width shape)) (offset (length ds) (c / 3)) (coords ds (q / width shape))
+        × (p % width shape + c % 3 ≡ suc (q % width shape))
     move = line-moved shape c p q ranked hc hp hq .0 m
 
     third : c / 3 ≡ mid (length ds)
@@ -58,13 +61,17 @@ one-left shape p q c ranked hc e hp hq lp lq m = (
     last = rw e (omega arith)
 
     still : Moved (coords ds (p / width shape)) (replicate (length ds) 1) (coords ds (p / width shape))
-    still = subst (λ (k : ℕ). Moved (coords ds (p / width shape)) (replicate k 1) (coords ds (p / width shape))) (length-coords ds (p / width shape)) (moved-still (coords ds (p / width shape)))
+    still = subst (λ (k : ℕ). Moved (coords ds (p / width shape)) (replicate k 1) (coords ds (p / width shape)))
+        (length-coords ds (p / width shape)) (moved-still (coords ds (p / width shape)))
 
     line : p / width shape ≡ q / width shape
-    line = coords-inj ds (p / width shape) (q / width shape) lp lq (moved-only (coords ds (p / width shape)) (replicate (length ds) 1) (coords ds (p / width shape)) (coords ds (q / width shape)) still (rw (third, offset-mid (length ds)) at (move .0)))
+    line = coords-inj ds (p / width shape) (q / width shape) lp lq
+        (moved-only (coords ds (p / width shape)) (replicate (length ds) 1) (coords ds (p / width shape))
+        (coords ds (q / width shape)) still (rw (third, offset-mid (length ds)) at (move .0)))
 
 module _ (shape structure : List ℕ) (cells : List Bool) (n : ℕ) (F : Fits shape n cells) where
-  -- the leading dimensions and the width, how many runs stand before each line, the runs by number, the run of a cell, and the touches of all fed lines
+  -- the leading dimensions and the width, how many runs stand before each line, the runs by number, the run of a cell, and the touches of
+  -- all fed lines
   abbrev ds : List ℕ
   ds = leading shape
 
@@ -92,9 +99,11 @@ module _ (shape structure : List ℕ) (cells : List Bool) (n : ℕ) (F : Fits sh
   -- ---- a step stays in a run, or is a touch
 
   -- to the left, with the left byte nonzero: the same run
-  stays : (p q : ℕ) → nonzero cells p ≡ true → nonzero cells q ≡ true → leftOn shape structure ≡ true → p ≡ suc q → (p % w ≡ 0 → ⊥) → of p ≡ of q
+  stays : (p q : ℕ) → nonzero cells p ≡ true → nonzero cells q ≡ true → leftOn shape structure ≡ true → p ≡ suc q → (p % w ≡ 0 → ⊥)
+      → of p ≡ of q
   unfolding runOf
-  stays p q a b l e ne = rw e (ap (λ (k : ℕ). k - 1) (count-off (beginsRun shape structure cells) (suc q) (subst (λ (k : ℕ). beginsRun shape structure cells k ≡ false) e off)))
+  stays p q a b l e ne = rw e (ap (λ (k : ℕ). k - 1)
+      (count-off (beginsRun shape structure cells) (suc q) (subst (λ (k : ℕ). beginsRun shape structure cells k ≡ false) e off)))
     where
       back : p - 1 ≡ q
       back = omega arith
@@ -113,7 +122,8 @@ module _ (shape structure : List ℕ) (cells : List Bool) (n : ℕ) (F : Fits sh
     hq = nonzero-under shape structure cells fits q b
 
     low : L .code < mid (suc (length ds))
-    low = subst (λ (k : ℕ). L .code < mid k) (length-leading shape (F .ranked)) (ltb-true _ _ (sym (backward-mid (length shape) (L .code) (L .is-code)) ∙ L .is-backward))
+    low = subst (λ (k : ℕ). L .code < mid k) (length-leading shape (F .ranked))
+        (ltb-true _ _ (sym (backward-mid (length shape) (L .code) (L .is-code)) ∙ L .is-backward))
 
     same-run : L .code ≡ 3 * mid (length ds) → of p ≡ of q
     same-run e =
@@ -128,7 +138,8 @@ module _ (shape structure : List ℕ) (cells : List Bool) (n : ℕ) (F : Fits sh
           line-high = omega (arith, line-below shape structure cells n F p a);
           lead = k;
           is-lead = omega (arith, twice-mid (length ds));
-          is-used = unfold used in and-true _ _ (backward-mid (length ds) k (omega (arith, twice-mid (length ds))) ∙ lt-ltb k (mid (length ds)) h) (rw zeroth at (three-on (λ t. on structure (3 * k + t)) (L .code % 3) (omega arith) byte));
+          is-used = unfold used in and-true _ _ (backward-mid (length ds) k (omega (arith, twice-mid (length ds))) ∙ lt-ltb k
+              (mid (length ds)) h) (rw zeroth at (three-on (λ t. on structure (3 * k + t)) (L .code % 3) (omega arith) byte));
           has-nbr = found .0;
           r-low = P .low;
           r-high = P .high;
@@ -136,7 +147,17 @@ module _ (shape structure : List ℕ) (cells : List Bool) (n : ℕ) (F : Fits sh
           s-high = subst (λ (m : ℕ). of q < S (suc m)) (sym (found .1)) (Q .high);
           reached =
               rw zeroth at (meeting-reaches (λ t. on structure (3 * k + t)) (run (of q)) (run (of p))
-              (record { t = L .code % 3; is-t = omega arith; is-on = byte; x = p % w; in-c = P .covers; y = q % w; in-m = Q .covers; along = move .1 }));
+              (record {
+                t = L .code % 3;
+                is-t = omega arith;
+                is-on = byte;
+                x = p % w;
+                in-c = P .covers;
+                y = q % w;
+                in-m = Q .covers;
+                along =
+                    move .1;
+              }));
         }
       where
         k : ℕ
@@ -193,8 +214,10 @@ module _ (shape structure : List ℕ) (cells : List Bool) (n : ℕ) (F : Fits sh
       M : Meeting (λ t. on structure (3 * k + t)) (run s) (run r)
       M =
           reaches-meeting (λ t. on structure (3 * k + t)) (run s) (run r)
-          (run-within shape structure cells m s (moves .0) (T .s-low) (T .s-high) .full) (run-within shape structure cells ℓ r hl (T .r-low) (T .r-high) .full)
-          (subst (λ (z : ℕ). reaches (on structure z) (on structure (3 * k + 1)) (on structure (3 * k + 2)) (run s) (run r) ≡ true) zeroth (T .reached))
+          (run-within shape structure cells m s (moves .0) (T .s-low) (T .s-high) .full)
+          (run-within shape structure cells ℓ r hl (T .r-low) (T .r-high) .full)
+          (subst (λ (z : ℕ). reaches (on structure z) (on structure (3 * k + 1)) (on structure (3 * k + 2)) (run s) (run r) ≡ true) zeroth
+          (T .reached))
 
       p : ℕ
       p = ℓ * w + M .x
@@ -231,11 +254,19 @@ module _ (shape structure : List ℕ) (cells : List Bool) (n : ℕ) (F : Fits sh
 
       move : Moved (coords shape p) (offset (length shape) c) (coords shape q)
       move =
-          line-moved shape c p q (F .ranked) hc (nonzero-under shape structure cells fits p (P .1)) (nonzero-under shape structure cells fits q (Q .1)) .1
+          line-moved shape c p q (F .ranked) hc (nonzero-under shape structure cells fits p (P .1))
+          (nonzero-under shape structure cells fits q (Q .1)) .1
           (rw (digits-div ℓ (P .0), digits-div m (Q .0), digits-mod ℓ (P .0), digits-mod m (Q .0), third, last) (moves .1, M .along))
 
       leads : Leads shape structure p q
-      leads = record { code = c; is-code = hc; is-backward = backward-mid (length shape) c hc ∙ lt-ltb c (mid (length shape)) below; is-on = M .is-on; leads = move }
+      leads = record {
+        code = c;
+        is-code = hc;
+        is-backward = backward-mid (length shape) c hc ∙ lt-ltb c
+            (mid (length shape)) below;
+        is-on = M .is-on;
+        leads = move;
+      }
 
   -- ---- both ways
 
@@ -243,7 +274,8 @@ module _ (shape structure : List ℕ) (cells : List Bool) (n : ℕ) (F : Fits sh
   linked-steps r s h = chain-map go h
     where
       turn : (x y : ℕ) → RunStep shape structure cells x y → RunStep shape structure cells y x
-      turn x y t = record { p = t .q; q = t .p; steps = step-flip shape structure cells (t .p) (t .q) (t .steps); of-r = t .of-s; of-s = t .of-r }
+      turn x y t =
+          record { p = t .q; q = t .p; steps = step-flip shape structure cells (t .p) (t .q) (t .steps); of-r = t .of-s; of-s = t .of-r }
 
       go : (x y : ℕ) → Joined T x y → RunStep shape structure cells x y
       go x y (inl m) = touch-step x y (touches-from ds structure S run 0 n x y m)
@@ -269,5 +301,6 @@ module _ (shape structure : List ℕ) (cells : List Bool) (n : ℕ) (F : Fits sh
     λ h. chain-bind of step-linked h,
     λ h.
         let up = chain-bind (startOf shape structure cells) (lift-step shape structure cells fits) (linked-steps _ _ h) in
-        chain-trans (chain-start shape structure cells fits p a) (chain-trans up (chain-sym (step-flip shape structure cells) (chain-start shape structure cells fits q b))),
+        chain-trans (chain-start shape structure cells fits p a)
+        (chain-trans up (chain-sym (step-flip shape structure cells) (chain-start shape structure cells fits q b))),
   )

@@ -24,7 +24,8 @@ last-only f (suc n) k h e only = go (f n) refl (last-only f n k)
     near true t b = absurd (true≢false (sym e ∙ ap f (eqb-true k n t) ∙ b))
     near false t b = let ne = eqb-false k n t in omega arith
 
-    go : (b : Bool) → f n ≡ b → (k < n → f k ≡ true → ((i : ℕ) → i < n → f i ≡ true → i ≡ k) → lastBelow f n ≡ k) → cond (f n) n (lastBelow f n) ≡ k
+    go : (b : Bool) → f n ≡ b → (k < n → f k ≡ true → ((i : ℕ) → i < n → f i ≡ true → i ≡ k) → lastBelow f n ≡ k)
+        → cond (f n) n (lastBelow f n) ≡ k
     go true b below = rw b (only n (le-refl (suc n)) b)
     go false b below = rw b (below (near (eqb k n) refl b) e (λ i l. only i (omega arith)))
 

@@ -18,7 +18,8 @@ use Rattle.frame.proofs.ShapeLaws.{factor-pos}
 use Rattle.frame.proofs.StructureLaws.{moved-cons, moved-head, backward-earlier}
 
 -- a line that the offset leads to is the neighbour
-pub nbr-found : (ds ts : List ℕ) (ℓ m : ℕ) → ℓ < size ds → m < size ds → length ts ≡ length ds → Moved (coords ds ℓ) ts (coords ds m) → (hasNbr ds ts ℓ ≡ true) × (nbrLine ds ts ℓ ≡ m)
+pub nbr-found : (ds ts : List ℕ) (ℓ m : ℕ) → ℓ < size ds → m < size ds → length ts ≡ length ds → Moved (coords ds ℓ) ts (coords ds m)
+    → (hasNbr ds ts ℓ ≡ true) × (nbrLine ds ts ℓ ≡ m)
 unfolding hasNbr nbrLine coords size
 nbr-found [] ts ℓ m hl hm e h = (refl, sym (lt-one hm))
 nbr-found (d ∷ ds) [] ℓ m hl hm e h = absurd (omega arith)
@@ -28,12 +29,14 @@ nbr-found (d ∷ ds) (t ∷ ts) ℓ m hl hm e h =
     let i = nbr-found ds ts (ℓ % size ds) (m % size ds) (mod-lt ℓ pos) (mod-lt m pos) (omega arith) (k .1) in
     let below : m / size ds < d = div-lt-iff-lt-mul pos .1 hm in
     let y : ℓ / size ds + t - 1 ≡ m / size ds = omega (arith, k .0) in (
-      and-true _ _ (and-true _ _ (lt-ltb 0 (ℓ / size ds + t) (omega (arith, k .0))) (le-leb (ℓ / size ds + t) d (omega (arith, k .0)))) (i .0),
+      and-true _ _ (and-true _ _ (lt-ltb 0 (ℓ / size ds + t) (omega (arith, k .0))) (le-leb (ℓ / size ds + t) d (omega (arith, k .0))))
+          (i .0),
       ap₂ (λ (a : ℕ) (b : ℕ). a * size ds + b) y (i .1) ∙ div-add-mod' m (size ds),
     )
 
 -- the neighbour is a line that the offset leads to
-pub nbr-moved : (ds ts : List ℕ) (ℓ : ℕ) → ℓ < size ds → length ts ≡ length ds → hasNbr ds ts ℓ ≡ true → (nbrLine ds ts ℓ < size ds) × Moved (coords ds ℓ) ts (coords ds (nbrLine ds ts ℓ))
+pub nbr-moved : (ds ts : List ℕ) (ℓ : ℕ) → ℓ < size ds → length ts ≡ length ds → hasNbr ds ts ℓ ≡ true
+    → (nbrLine ds ts ℓ < size ds) × Moved (coords ds ℓ) ts (coords ds (nbrLine ds ts ℓ))
 unfolding hasNbr nbrLine coords size
 nbr-moved [] [] ℓ hl e h = (le-refl 1, unfold Moved zipWith in refl)
 nbr-moved [] (t ∷ ts) ℓ hl e h = absurd (omega arith)
@@ -43,14 +46,17 @@ nbr-moved (d ∷ ds) (t ∷ ts) ℓ hl e h =
     let both = and-left (ltb 0 (ℓ / size ds + t) && leb (ℓ / size ds + t) d) (hasNbr ds ts (ℓ % size ds)) h in
     let lo = ltb-true 0 (ℓ / size ds + t) (and-left _ (leb (ℓ / size ds + t) d) both) in
     let hi = leb-true (ℓ / size ds + t) d (and-right (ltb 0 (ℓ / size ds + t)) _ both) in
-    let i = nbr-moved ds ts (ℓ % size ds) (mod-lt ℓ pos) (omega arith) (and-right (ltb 0 (ℓ / size ds + t) && leb (ℓ / size ds + t) d) (hasNbr ds ts (ℓ % size ds)) h) in
+    let i = nbr-moved ds ts (ℓ % size ds) (mod-lt ℓ pos) (omega arith)
+    (and-right (ltb 0 (ℓ / size ds + t) && leb (ℓ / size ds + t) d) (hasNbr ds ts (ℓ % size ds)) h) in
     let y : ℕ = ℓ / size ds + t - 1 in
     let z : ℕ = nbrLine ds ts (ℓ % size ds) in
     let yd : y < d = omega arith in (
       digits-lt yd (i .0),
-      rw (digits-div y (i .0), digits-mod y (i .0)) (moved-cons (ℓ / size ds) t y (coords ds (ℓ % size ds)) ts (coords ds z) (omega arith) (i .1)),
+      rw (digits-div y (i .0), digits-mod y (i .0))
+          (moved-cons (ℓ / size ds) t y (coords ds (ℓ % size ds)) ts (coords ds z) (omega arith) (i .1)),
     )
 
 -- a backward offset leads to a line before
-pub nbr-before : (ds ts : List ℕ) (ℓ : ℕ) → ℓ < size ds → length ts ≡ length ds → backward ts ≡ true → hasNbr ds ts ℓ ≡ true → nbrLine ds ts ℓ < ℓ
+pub nbr-before : (ds ts : List ℕ) (ℓ : ℕ) → ℓ < size ds → length ts ≡ length ds → backward ts ≡ true → hasNbr ds ts ℓ ≡ true
+    → nbrLine ds ts ℓ < ℓ
 nbr-before ds ts ℓ hl e b h = let m = nbr-moved ds ts ℓ hl e h in backward-earlier ds ts ℓ (nbrLine ds ts ℓ) hl (m .0) e b (m .1)

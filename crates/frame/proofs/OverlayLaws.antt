@@ -55,13 +55,15 @@ pub adds-none : {buf : List ℕ} {place : ℕ} → Adds [] buf place buf place
 adds-none = record { long = refl; behind = λ xs ys H. rw (append-nil xs) H }
 
 pub adds-then : {zs vs a b c : List ℕ} {i j k : ℕ} → Adds zs a i b j → Adds vs b j c k → Adds (zs ++ vs) a i c k
-adds-then {zs} {vs} A B = record { long = B .long ∙ A .long; behind = λ xs ys H. rw (← append-assoc xs zs vs) (B .behind (xs ++ zs) ys (A .behind xs ys H)) }
+adds-then {zs} {vs} A B =
+    record { long = B .long ∙ A .long; behind = λ xs ys H. rw (← append-assoc xs zs vs) (B .behind (xs ++ zs) ys (A .behind xs ys H)) }
 
 -- one, where there is room and where there is none
 pub adds-put : (x : ℕ) (buf : List ℕ) (place : ℕ) → place < length buf → Adds (x ∷ []) buf place (set buf place x) (place + 1)
 adds-put x buf place h = record { long = simp length-set; behind = λ xs ys H. room xs ys H (length-overlay xs ys) }
   where
-    room : (xs ys : List ℕ) → Holds xs ys buf place → length (overlay xs ys) ≡ length ys → Holds (xs ++ x ∷ []) ys (set buf place x) (place + 1)
+    room : (xs ys : List ℕ) → Holds xs ys buf place → length (overlay xs ys) ≡ length ys
+        → Holds (xs ++ x ∷ []) ys (set buf place x) (place + 1)
     room xs ys H n =
         let l : length buf ≡ length ys = ap length (H .now-is) ∙ n in
         let e : place ≡ length xs = omega (arith, H .place-is) in
@@ -83,7 +85,8 @@ adds-full x buf place h = record { long = refl; behind = λ xs ys H. full xs ys 
         }
 
 -- a list, entry by entry: the first i of them are written, and then one more
-pub adds-next : (out : List ℕ) (i : ℕ) {a b c : List ℕ} {j k l : ℕ} → i < length out → Adds (take i out) a j b k → Adds (getD out i 0 ∷ []) b k c l → Adds (take (i + 1) out) a j c l
+pub adds-next : (out : List ℕ) (i : ℕ) {a b c : List ℕ} {j k l : ℕ} → i < length out → Adds (take i out) a j b k
+    → Adds (getD out i 0 ∷ []) b k c l → Adds (take (i + 1) out) a j c l
 adds-next out i h A B = rw (add-one i, take-suc out i 0 h) (adds-then A B)
 
 pub adds-all : (out : List ℕ) (i : ℕ) {a b : List ℕ} {j k : ℕ} → length out ≤ i → Adds (take i out) a j b k → Adds out a j b k

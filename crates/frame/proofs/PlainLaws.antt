@@ -12,7 +12,8 @@ use lib.Dec.{eqb}
 use lib.ListN.{length, length-append}
 use Rattle.frame.specs.Shape.{size, width, lines}
 use Rattle.frame.specs.Kinds.{Cells, flags, holds}
-use Rattle.frame.specs.Plain.{Call, feed, read, sizes, Answer, refused, unless, kept, State, opened, feeds, groupsOf, figures, cause, next, after}
+use Rattle.frame.specs.Plain.{Call, feed, read, sizes, Answer, refused, unless, kept, State, opened, feeds, groupsOf, figures, cause}
+use Rattle.frame.specs.Plain.{next, after}
 use Rattle.frame.proofs.ShapeLaws.{Fits}
 use Rattle.frame.proofs.RunLaws.{count-runs}
 use Rattle.frame.proofs.CauseLaws.{feed-accepted, feed-six, read-six, sizes-six}
@@ -67,7 +68,8 @@ module _ (shape : List ℕ) where
   pub opened-fits : (structure : List ℕ) → 0 < length shape → FitsIn (opened structure)
   opened-fits structure h = record { ranked = h; below = omega arith; whole = sym (zero-mul (width shape)) }
 
-  pub feeds-fits : (p : State) (k : ℕ) (cells : List Bool) → FitsIn p → k ≤ lines shape - p .fed → length cells ≡ k * width shape → FitsIn (feeds p k cells)
+  pub feeds-fits : (p : State) (k : ℕ) (cells : List Bool) → FitsIn p → k ≤ lines shape - p .fed → length cells ≡ k * width shape
+      → FitsIn (feeds p k cells)
   unfolding feeds
   feeds-fits p k cells F h e =
       record {
@@ -82,8 +84,10 @@ module _ (shape : List ℕ) where
   next-fits p (sizes out) F = F
   next-fits p (feed k cells) F = go (eqb (cause shape p (feed k cells)) 0) refl
     where
-      go : (b : Bool) → eqb (cause shape p (feed k cells)) 0 ≡ b → FitsIn (cond (eqb (cause shape p (feed k cells)) 0) (feeds p k (flags cells)) p)
-      go true t = rw t (let a = feed-accepted true (lines shape - p .fed) k (width shape) (length (flags cells)) (unfold cause in eqb-true _ _ t) in feeds-fits p k (flags cells) F (a .1) (a .2))
+      go : (b : Bool) → eqb (cause shape p (feed k cells)) 0 ≡ b
+          → FitsIn (cond (eqb (cause shape p (feed k cells)) 0) (feeds p k (flags cells)) p)
+      go true t = rw t (let a = feed-accepted true (lines shape - p .fed) k (width shape) (length (flags cells))
+          (unfold cause in eqb-true _ _ t) in feeds-fits p k (flags cells) F (a .1) (a .2))
       go false t = rw t F
 
   pub after-fits : (cs : List Call) (p : State) → FitsIn p → FitsIn (after shape p cs)
@@ -93,7 +97,8 @@ module _ (shape : List ℕ) where
 
   -- ---- the next state
 
-  pub next-feeds : (p : State) (k : ℕ) (cells : Cells) → cause shape p (feed k cells) ≡ 0 → next shape p (feed k cells) ≡ feeds p k (flags cells)
+  pub next-feeds : (p : State) (k : ℕ) (cells : Cells) → cause shape p (feed k cells) ≡ 0
+      → next shape p (feed k cells) ≡ feeds p k (flags cells)
   unfolding next
   next-feeds p k cells e = rw e refl
 
@@ -119,9 +124,11 @@ module _ (shape : List ℕ) where
 -- a feed of no lines changes nothing
 pub feeds-none : (p : State) → feeds p 0 [] ≡ p
 unfolding feeds
-feeds-none p = ap₂ (λ (m : ℕ) (l : List Bool). record { structure = p .structure; fed = m; cells = l }) (add-zero (p .fed)) (append-nil (p .cells))
+feeds-none p =
+    ap₂ (λ (m : ℕ) (l : List Bool). record { structure = p .structure; fed = m; cells = l }) (add-zero (p .fed)) (append-nil (p .cells))
 
 -- two feeds leave what one feed of all their lines does
 pub feeds-feeds : (p : State) (k j : ℕ) (xs ys : List Bool) → feeds (feeds p k xs) j ys ≡ feeds p (k + j) (xs ++ ys)
 unfolding feeds
-feeds-feeds p k j xs ys = ap₂ (λ (m : ℕ) (l : List Bool). record { structure = p .structure; fed = m; cells = l }) (add-assoc (p .fed) k j) (append-assoc (p .cells) xs ys)
+feeds-feeds p k j xs ys = ap₂ (λ (m : ℕ) (l : List Bool). record { structure = p .structure; fed = m; cells = l }) (add-assoc (p .fed) k j)
+    (append-assoc (p .cells) xs ys)

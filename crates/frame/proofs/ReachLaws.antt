@@ -1,4 +1,5 @@
--- The reach: a neighbouring run reaches a current one exactly where a step along the line leads from a cell of the one to a cell of the other.
+-- The reach: a neighbouring run reaches a current one exactly where a step along the line leads from a cell of the one to a cell of the
+-- other.
 -- Assumes nothing.
 use mathlib.Core.Path.{_≡_}
 use mathlib.Core.Logic.{_⊎_, inl, inr}
@@ -42,12 +43,18 @@ meeting-reaches f m c M = go (M .t) (M .is-t) (M .is-on) (M .along)
     N = f 2 && reachNext (m .start) (m .end) (c .start) (c .end)
 
     go : (t : ℕ) → t < 3 → f t ≡ true → M .x + t ≡ suc (M .y) → (P || (A || N)) ≡ true
-    go zero h o a = or-left P (A || N) (and-true _ _ o (over (m .start + 1) (m .end + 1) (c .start) (c .end) (omega (arith, M .in-c, M .in-m)) (omega (arith, M .in-c, M .in-m))))
-    go (suc zero) h o a = or-right P (A || N) (or-left A N (and-true _ _ o (over (m .start) (m .end) (c .start) (c .end) (omega (arith, M .in-c, M .in-m)) (omega (arith, M .in-c, M .in-m)))))
-    go (suc (suc zero)) h o a = or-right P (A || N) (or-right A N (and-true _ _ o (over (m .start) (m .end) (c .start + 1) (c .end + 1) (omega (arith, M .in-c, M .in-m)) (omega (arith, M .in-c, M .in-m)))))
+    go zero h o a = or-left P (A || N) (and-true _ _ o
+        (over (m .start + 1) (m .end + 1) (c .start) (c .end) (omega (arith, M .in-c, M .in-m)) (omega (arith, M .in-c, M .in-m))))
+    go (suc zero) h o a = or-right P (A || N)
+        (or-left A N (and-true _ _ o (over (m .start) (m .end) (c .start) (c .end) (omega (arith, M .in-c, M .in-m))
+        (omega (arith, M .in-c, M .in-m)))))
+    go (suc (suc zero)) h o a = or-right P (A || N)
+        (or-right A N (and-true _ _ o (over (m .start) (m .end) (c .start + 1) (c .end + 1) (omega (arith, M .in-c, M .in-m))
+        (omega (arith, M .in-c, M .in-m)))))
     go (suc (suc (suc t))) h o a = absurd (omega arith)
 
-pub reaches-meeting : (f : ℕ → Bool) (m c : Run) → m .start < m .end → c .start < c .end → reaches (f 0) (f 1) (f 2) m c ≡ true → Meeting f m c
+pub reaches-meeting : (f : ℕ → Bool) (m c : Run) → m .start < m .end → c .start < c .end → reaches (f 0) (f 1) (f 2) m c ≡ true
+    → Meeting f m c
 unfolding reaches
 reaches-meeting f m c hm hc h = go (or-cases P (A || N) h)
   where
@@ -64,15 +71,45 @@ reaches-meeting f m c hm hc h = go (or-cases P (A || N) h)
     side (inl e) =
         let o = over-parts (m .start) (m .end) (c .start) (c .end) (and-right (f 1) _ e) in
         let k : ℕ = max (m .start) (c .start) in
-        record { t = 1; is-t = omega arith; is-on = and-left (f 1) _ e; x = k; in-c = (omega arith, omega arith); y = k; in-m = (omega arith, omega arith); along = omega arith }
+        record {
+          t = 1;
+          is-t = omega arith;
+          is-on = and-left (f 1) _ e;
+          x = k;
+          in-c = (omega arith, omega arith);
+          y = k;
+          in-m =
+              (omega arith, omega arith);
+          along = omega arith;
+        }
     side (inr e) =
         let o = over-parts (m .start) (m .end) (c .start + 1) (c .end + 1) (and-right (f 2) _ e) in
         let k : ℕ = max (m .start) (c .start + 1) in
-        record { t = 2; is-t = omega arith; is-on = and-left (f 2) _ e; x = k - 1; in-c = (omega arith, omega arith); y = k; in-m = (omega arith, omega arith); along = omega arith }
+        record {
+          t = 2;
+          is-t = omega arith;
+          is-on = and-left (f 2) _ e;
+          x = k - 1;
+          in-c = (omega arith, omega arith);
+          y = k;
+          in-m =
+              (omega arith, omega arith);
+          along = omega arith;
+        }
 
     go : (P ≡ true) ⊎ ((A || N) ≡ true) → Meeting f m c
     go (inl e) =
         let o = over-parts (m .start + 1) (m .end + 1) (c .start) (c .end) (and-right (f 0) _ e) in
         let k : ℕ = max (m .start + 1) (c .start) in
-        record { t = 0; is-t = omega arith; is-on = and-left (f 0) _ e; x = k; in-c = (omega arith, omega arith); y = k - 1; in-m = (omega arith, omega arith); along = omega arith }
+        record {
+          t = 0;
+          is-t = omega arith;
+          is-on = and-left (f 0) _ e;
+          x = k;
+          in-c = (omega arith, omega arith);
+          y = k - 1;
+          in-m =
+              (omega arith, omega arith);
+          along = omega arith;
+        }
     go (inr e) = side (or-cases A N e)

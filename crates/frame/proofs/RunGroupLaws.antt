@@ -40,7 +40,8 @@ module _ (shape structure : List ℕ) (cells : List Bool) (n : ℕ) (F : Fits sh
   pub touches-runs : Ends (λ r. r < N) T
   touches-runs =
       subst (λ (k : ℕ). Ends (λ r. r < k) T) (ap (runsBefore shape structure cells) (zero-add n) ∙ sym (runs-all shape structure cells n F))
-      (touches-below (leading shape) structure (runsBefore shape structure cells) (frameRun shape structure cells) (start-le shape structure cells) 0 n (omega (arith, F .below)))
+      (touches-below (leading shape) structure (runsBefore shape structure cells) (frameRun shape structure cells)
+      (start-le shape structure cells) 0 n (omega (arith, F .below)))
 
   -- for every list that joins what the touches join, in any order and with repeats
   module _ (es : List Edge) (into : (a b : ℕ) → Joined es a b → Joined T a b) (onto : (a b : ℕ) → Joined T a b → Joined es a b) where
@@ -108,7 +109,8 @@ module _ (shape structure : List ℕ) (cells : List Bool) (n : ℕ) (F : Fits sh
   pub groups-visited : groups (λ r. true) (visit T []) N ≡ groupCount shape structure cells
   groups-visited = groups-runs _ into onto
 
-  pub number-visited : (p : ℕ) → p < size shape → cond (nonzero cells p) (number (λ r. true) (visit T []) (of p)) 0 ≡ label shape structure cells p
+  pub number-visited : (p : ℕ) → p < size shape
+      → cond (nonzero cells p) (number (λ r. true) (visit T []) (of p)) 0 ≡ label shape structure cells p
   number-visited = number-runs _ into onto
 
   pub joins-visited : groupCount shape structure cells + joins (visit T []) ≡ N

@@ -13,7 +13,8 @@ use lib.ListN.{length}
 use Rattle.groups.specs.Groups.{Chain, one, more, Edge, Joined, rep, isRoot, count, groups, joins}
 use Rattle.groups.specs.Numbers.{Numbered, number}
 use Rattle.groups.proofs.BoolLaws.{and-true, and-left, and-right}
-use Rattle.groups.proofs.CountLaws.{count-on, count-off, count-mono, count-le, count-all, count-beyond, place, Placed, place-right, placed-only}
+use Rattle.groups.proofs.CountLaws.{count-on, count-off, count-mono, count-le, count-all, count-beyond, place, Placed, place-right}
+use Rattle.groups.proofs.CountLaws.{placed-only}
 use Rattle.groups.proofs.ChainLaws.{chain-trans, chain-sym}
 use Rattle.groups.proofs.RepLaws.{rep-least, Ends}
 use Rattle.groups.proofs.GroupLaws.{groups-joins, all-live}
@@ -30,23 +31,29 @@ use Rattle.frame.proofs.ChainRuleLaws.{nonzero-below, nonzero-beyond, s
 
 module _ (structure : List ℕ) (cells : List Bool) where
   -- where the left byte is nonzero, a cell that goes on leads to the cell to the leftOn
-  pub left-leads : (shape : List ℕ) (p : ℕ) → p < size shape → leftOn shape structure ≡ true → goesOn shape cells p ≡ true → Leads shape structure p (p - 1)
+  pub left-leads : (shape : List ℕ) (p : ℕ) → p < size shape → leftOn shape structure ≡ true → goesOn shape cells p ≡ true
+      → Leads shape structure p (p - 1)
   unfolding leftOn goesOn
-  left-leads [] p h l g = unfold width in absurd (true≢false (sym (and-left (not (eqb (p % 1) 0)) (nonzero cells (p - 1)) g) ∙ ap not (eq-eqb (p % 1) 0 (mod-one p))))
+  left-leads [] p h l g = unfold width in absurd
+      (true≢false (sym (and-left (not (eqb (p % 1) 0)) (nonzero cells (p - 1)) g) ∙ ap not (eq-eqb (p % 1) 0 (mod-one p))))
   left-leads (d ∷ ds) p h l g =
       let r = length ds in
       let c : leftCode (suc r) < mid (suc r) = omega (arith, half-mid (suc r), next-mid r) in
       record {
         code = leftCode (suc r);
         is-code = omega (arith, twice-mid (suc r));
-        is-backward = backward-mid (suc r) (leftCode (suc r)) (omega (arith, twice-mid (suc r))) ∙ lt-ltb (leftCode (suc r)) (mid (suc r)) c;
+        is-backward =
+            backward-mid (suc r) (leftCode (suc r)) (omega (arith, twice-mid (suc r))) ∙ lt-ltb (leftCode (suc r)) (mid (suc r)) c;
         is-on = l;
-        leads = left-moved (d ∷ ds) p (omega arith) h (λ z. eqb-false (p % width (d ∷ ds)) 0 (not-true _ (and-left _ (nonzero cells (p - 1)) g)) z);
+        leads = left-moved (d ∷ ds) p (omega arith) h
+            (λ z. eqb-false (p % width (d ∷ ds)) 0 (not-true _ (and-left _ (nonzero cells (p - 1)) g)) z);
       }
 
   pub goes-pos : (shape : List ℕ) (p : ℕ) → goesOn shape cells p ≡ true → 0 < p
   unfolding goesOn
-  goes-pos shape zero g = absurd (true≢false (sym (and-left (not (eqb (0 % width shape) 0)) (nonzero cells (0 - 1)) g) ∙ ap not (eq-eqb (0 % width shape) 0 (zero-mod (width shape)))))
+  goes-pos shape zero g = absurd (true≢false
+      (sym (and-left (not (eqb (0 % width shape) 0)) (nonzero cells (0 - 1)) g) ∙ ap not
+      (eq-eqb (0 % width shape) 0 (zero-mod (width shape)))))
   goes-pos shape (suc p) g = omega arith
 
   pub goes-nonzero : (shape : List ℕ) (p : ℕ) → goesOn shape cells p ≡ true → nonzero cells (p - 1) ≡ true
@@ -56,7 +63,8 @@ module _ (structure : List ℕ) (cells : List Bool) where
 -- ---- n is at most runs: every group begins with a run
 
 module _ (shape structure : List ℕ) (cells : List Bool) where
-  root-begins : (p : ℕ) → p < size shape → (nonzero cells p && isRoot (edges shape structure cells) p) ≡ true → beginsRun shape structure cells p ≡ true
+  root-begins : (p : ℕ) → p < size shape → (nonzero cells p && isRoot (edges shape structure cells) p) ≡ true
+      → beginsRun shape structure cells p ≡ true
   unfolding beginsRun isRoot
   root-begins p h e = and-true (nonzero cells p) _ a (go (leftOn shape structure) refl (goesOn shape cells p) refl)
     where
@@ -66,12 +74,15 @@ module _ (shape structure : List ℕ) (cells : List Bool) where
       r : rep (edges shape structure cells) p ≡ p
       r = eqb-true _ _ (and-right (nonzero cells p) (eqb (rep (edges shape structure cells) p) p) e)
 
-      go : (b : Bool) → leftOn shape structure ≡ b → (c : Bool) → goesOn shape cells p ≡ c → not (leftOn shape structure && goesOn shape cells p) ≡ true
+      go : (b : Bool) → leftOn shape structure ≡ b → (c : Bool) → goesOn shape cells p ≡ c
+          → not (leftOn shape structure && goesOn shape cells p) ≡ true
       go false eb c ec = rw eb
       go true eb false ec = rw (eb, ec)
       go true eb true ec =
           let pos = goes-pos structure cells shape p ec in
-          let k = rep-least (edges shape structure cells) (more (inl (step-edge shape structure cells p (p - 1) a (goes-nonzero structure cells shape p ec) (left-leads structure cells shape p h eb ec))) one) in
+          let k = rep-least (edges shape structure cells)
+          (more (inl (step-edge shape structure cells p (p - 1) a (goes-nonzero structure cells shape p ec)
+          (left-leads structure cells shape p h eb ec))) one) in
           absurd (omega (arith, r))
 
   pub count-runs : groupCount shape structure cells ≤ runs shape structure cells
@@ -117,11 +128,15 @@ module _ (shape structure : List ℕ) (cells : List Bool) where
     pub chained : Chain Steps p b
 
   -- a nonzero cell begins a run, or the left byte is nonzero and it goes on
-  begins-or : (p : ℕ) → nonzero cells p ≡ true → (begins p ≡ true) ⊎ ((begins p ≡ false) × (leftOn shape structure ≡ true) × (goesOn shape cells p ≡ true))
+  begins-or : (p : ℕ) → nonzero cells p ≡ true
+      → (begins p ≡ true) ⊎ ((begins p ≡ false) × (leftOn shape structure ≡ true) × (goesOn shape cells p ≡ true))
   unfolding beginsRun
   begins-or p a = go (leftOn shape structure) refl (goesOn shape cells p) refl
     where
-      go : (b : Bool) → leftOn shape structure ≡ b → (c : Bool) → goesOn shape cells p ≡ c → ((nonzero cells p && not (leftOn shape structure && goesOn shape cells p)) ≡ true) ⊎ (((nonzero cells p && not (leftOn shape structure && goesOn shape cells p)) ≡ false) × (leftOn shape structure ≡ true) × (goesOn shape cells p ≡ true))
+      go : (b : Bool) → leftOn shape structure ≡ b → (c : Bool) → goesOn shape cells p ≡ c
+          → ((nonzero cells p && not (leftOn shape structure && goesOn shape cells p)) ≡ true) ⊎
+          (((nonzero cells p && not (leftOn shape structure && goesOn shape cells p)) ≡ false) × (leftOn shape structure ≡ true)
+          × (goesOn shape cells p ≡ true))
       go false eb c ec = inl (rw (a, eb))
       go true eb false ec = inl (rw (a, eb, ec))
       go true eb true ec = inr (rw (a, eb, ec), eb, ec)
@@ -140,7 +155,9 @@ module _ (shape structure : List ℕ) (cells : List Bool) where
       back : suc p - 1 ≡ p
       back = omega arith
 
-      go : (nonzero cells p ≡ true → (b : ℕ) × Begun p b) → (begins (suc p) ≡ true) ⊎ ((begins (suc p) ≡ false) × (leftOn shape structure ≡ true) × (goesOn shape cells (suc p) ≡ true)) → (b : ℕ) × Begun (suc p) b
+      go : (nonzero cells p ≡ true → (b : ℕ) × Begun p b)
+          → (begins (suc p) ≡ true) ⊎ ((begins (suc p) ≡ false) × (leftOn shape structure ≡ true) × (goesOn shape cells (suc p) ≡ true))
+          → (b : ℕ) × Begun (suc p) b
       go below (inl e) = here-begun (suc p) e
       go below (inr g) =
           let l : nonzero cells p ≡ true = rw back at (goes-nonzero structure cells shape (suc p) (g .2)) in
@@ -165,8 +182,19 @@ module _ (shape structure : List ℕ) (cells : List Bool) where
     unfolding runOf
     placed p a =
         let h = nonzero-under p a in
-        let r = begun p h a in
-        (r .0, r .1, record { under = omega (arith, r .1 .at-most); passes = r .1 .is-begin; rank = omega (arith, r .1 .ranks, count-on begins (r .0) (r .1 .is-begin)) })
+        let r = begun p h a in (
+          r .0,
+          r .1,
+          record {
+            under = omega (arith, r .1 .at-most);
+            passes = r .1 .is-begin;
+            rank = omega (
+              arith,
+              r .1 .ranks,
+              count-on begins (r .0) (r .1 .is-begin),
+            );
+          },
+        )
 
     pub run-below : (p : ℕ) → nonzero cells p ≡ true → of p < N
     unfolding runs
@@ -196,7 +224,12 @@ module _ (shape structure : List ℕ) (cells : List Bool) where
     start-less r s l h = go (leb (start s) (start r)) refl
       where
         go : (b : Bool) → leb (start s) (start r) ≡ b → start r < start s
-        go true t = absurd (omega (arith, count-mono begins (start s) (start r) (leb-true _ _ t), start-right r (omega arith) .rank, start-right s h .rank))
+        go true t = absurd (omega (
+          arith,
+          count-mono begins (start s) (start r) (leb-true _ _ t),
+          start-right r (omega arith) .rank,
+          start-right s h .rank,
+        ))
         go false t = leb-false _ _ t
 
     pub lift-step : (r s : ℕ) → RunStep shape structure cells r s → Chain Steps (start r) (start s)
@@ -221,8 +254,10 @@ module _ (shape structure : List ℕ) (cells : List Bool) where
     }
 
     -- edges between runs that join what steps join give the count, the numbers and the joins
-    module _ (es : List Edge) (sound : (r s : ℕ) → Chain (Joined es) r s → Chain (RunStep shape structure cells) r s) (whole : (r s : ℕ) → Chain (RunStep shape structure cells) r s → Chain (Joined es) r s) where
-      runs-number : Numbered (nonzero cells) Steps (size shape) (groups (λ r. true) es N) (λ p. cond (nonzero cells p) (number (λ r. true) es (of p)) 0)
+    module _ (es : List Edge) (sound : (r s : ℕ) → Chain (Joined es) r s → Chain (RunStep shape structure cells) r s)
+        (whole : (r s : ℕ) → Chain (RunStep shape structure cells) r s → Chain (Joined es) r s) where
+      runs-number : Numbered (nonzero cells) Steps (size shape) (groups (λ r. true) es N)
+          (λ p. cond (nonzero cells p) (number (λ r. true) es (of p)) 0)
       runs-number = by-runs runs-onto _ _ (numbered-over sound whole (number-right (λ r. true) es (all-live es) N))
 
       pub runs-count : groups (λ r. true) es N ≡ groupCount shape structure cells
@@ -246,4 +281,5 @@ module _ (shape structure : List ℕ) (cells : List Bool) where
   unfolding runs
   runs-counted fits =
       let e : length cells + (size shape - length cells) ≡ size shape = omega arith in
-      ap (count (beginsRun shape structure cells)) (sym e) ∙ count-beyond (beginsRun shape structure cells) (length cells) (size shape - length cells) begins-beyond
+      ap (count (beginsRun shape structure cells)) (sym e)
+      ∙ count-beyond (beginsRun shape structure cells) (length cells) (size shape - length cells) begins-beyond

@@ -23,7 +23,9 @@ module _ (place value : ℕ → ℕ) where
   pub setAll-other : (n : ℕ) (ws : List ℕ) (j : ℕ) → ((i : ℕ) → i < n → j ≢ place i) → getD (setAll place value n ws) j 0 ≡ getD ws j 0
   unfolding setAll
   setAll-other zero ws j h = refl
-  setAll-other (suc n) ws j h = getD-set-other (setAll place value n ws) (place n) j (value n) 0 (h n (le-refl (suc n))) ∙ setAll-other n ws j (λ i l. h i (omega arith))
+  setAll-other (suc n) ws j h =
+      getD-set-other (setAll place value n ws) (place n) j (value n) 0 (h n (le-refl (suc n)))
+      ∙ setAll-other n ws j (λ i l. h i (omega arith))
 
   -- where no place is set twice, each has its value
   pub setAll-at : (n : ℕ) (ws : List ℕ) → ((i j : ℕ) → i < n → j < n → place i ≡ place j → i ≡ j) → (i : ℕ) → i < n → place i < length ws
@@ -34,7 +36,11 @@ module _ (place value : ℕ → ℕ) where
     where
       go : (b : Bool) → eqb i n ≡ b → (i < n → getD (setAll place value n ws) (place i) 0 ≡ value i)
           → getD (set (setAll place value n ws) (place n) (value n)) (place i) 0 ≡ value i
-      go true t below = rw (eqb-true i n t) (getD-set-same (setAll place value n ws) (place n) (value n) 0 (rw (length-setAll n ws, ← eqb-true i n t) fits))
+      go true t below = rw (eqb-true i n t) (getD-set-same (setAll place value n ws) (place n) (value n) 0 (rw (
+        length-setAll n ws,
+        ← eqb-true i n t,
+      ) fits))
       go false t below =
           let ne = eqb-false i n t in
-          getD-set-other (setAll place value n ws) (place n) (place i) (value n) 0 (λ q. ne (once i n h (le-refl (suc n)) q)) ∙ below (omega arith)
+          getD-set-other (setAll place value n ws) (place n) (place i) (value n) 0 (λ q. ne (once i n h (le-refl (suc n)) q))
+          ∙ below (omega arith)

@@ -4,7 +4,8 @@ use mathlib.Core.Path.{_≡_, refl, sym, ap, ap₂, _∙_, subst}
 use mathlib.Core.Bool.{Bool}
 use mathlib.Core.List.{List, [], _∷_, _++_, head-eq-of-cons-eq, tail-eq-of-cons-eq}
 use Prim.Native.Nat.{ℕ, zero, suc, _+_, _*_, _/_, _%_, _≤_, _<_}
-use native.Mathlib.Nat.{not-suc-le-zero, div-add-mod', mod-lt, mod-eq-of-lt, mul-zero, mul-assoc, mul-comm, mul-le-mul-right, div-div-eq-div-mul}
+use native.Mathlib.Nat.{not-suc-le-zero, div-add-mod', mod-lt, mod-eq-of-lt, mul-zero, mul-assoc, mul-comm, mul-le-mul-right}
+use native.Mathlib.Nat.{div-div-eq-div-mul}
 use native.Mathlib.Omega.{arith}
 use lib.Arith.{lt-one, digits-div, digits-mod, mod-mul}
 use lib.ListN.{length}
@@ -45,14 +46,17 @@ coords-inj (d ∷ ds) p q hp hq e =
     sym (div-add-mod' p m) ∙ ap₂ (λ (x : ℕ) (y : ℕ). x * m + y) a b ∙ div-add-mod' q m
 
 -- a cell's coordinates are its line's, and its column
-pub coords-line : (shape : List ℕ) (p : ℕ) → 0 < length shape → p < size shape → coords shape p ≡ coords (leading shape) (p / width shape) ++ p % width shape ∷ []
+pub coords-line : (shape : List ℕ) (p : ℕ) → 0 < length shape → p < size shape
+    → coords shape p ≡ coords (leading shape) (p / width shape) ++ p % width shape ∷ []
 unfolding leading width coords
 coords-line [] p r h = absurd (not-suc-le-zero r)
-coords-line (d ∷ []) p r h = unfold size in ap (λ (k : ℕ). k ∷ []) (by-one p ∙ sym (mod-eq-of-lt (let g : p < d * 1 = h in let l : p < d = omega arith in l)))
+coords-line (d ∷ []) p r h =
+    unfold size in ap (λ (k : ℕ). k ∷ []) (by-one p ∙ sym (mod-eq-of-lt (let g : p < d * 1 = h in let l : p < d = omega arith in l)))
   where
     by-one : (k : ℕ) → k / 1 ≡ k
     by-one k = omega arith
-coords-line (d ∷ (e ∷ ds)) p r h = ap₂ (λ (k : ℕ) (l : List ℕ). k ∷ l) first (go (coords-line (e ∷ ds) (p % size (e ∷ ds)) (omega arith) (mod-lt p pos)))
+coords-line (d ∷ (e ∷ ds)) p r h =
+    ap₂ (λ (k : ℕ) (l : List ℕ). k ∷ l) first (go (coords-line (e ∷ ds) (p % size (e ∷ ds)) (omega arith) (mod-lt p pos)))
   where
     w : ℕ
     w = width (e ∷ ds)

@@ -43,7 +43,8 @@ next-mid r = omega (arith, twice-mid r, twice-mid (suc r), pow-succ' 3 r)
 
 -- ---- backward
 
-backward-cases : (t : ℕ) (ts : List ℕ) (b : Bool) → backward ts ≡ b → (t ≡ 0 → backward (t ∷ ts) ≡ true) × (t ≡ 1 → backward (t ∷ ts) ≡ b) × (1 < t → backward (t ∷ ts) ≡ false)
+backward-cases : (t : ℕ) (ts : List ℕ) (b : Bool) → backward ts ≡ b
+    → (t ≡ 0 → backward (t ∷ ts) ≡ true) × (t ≡ 1 → backward (t ∷ ts) ≡ b) × (1 < t → backward (t ∷ ts) ≡ false)
 unfolding backward
 backward-cases t ts b e = (
   λ z. rw z refl,
@@ -63,7 +64,8 @@ unfolding offset coords mid
 backward-mid zero c h = unfold backward in sym (le-ltb c 0 (omega arith))
 backward-mid (suc r) c h = rw (size-threes r) (go (backward-mid r (c % 3 ^ r) (mod-lt c (three-pos r))) (c / 3 ^ r) refl)
   where
-    go : backward (offset r (c % 3 ^ r)) ≡ ltb (c % 3 ^ r) (mid r) → (t : ℕ) → c / 3 ^ r ≡ t → backward (c / 3 ^ r ∷ coords (replicate r 3) (c % 3 ^ r)) ≡ ltb c (3 ^ r + mid r)
+    go : backward (offset r (c % 3 ^ r)) ≡ ltb (c % 3 ^ r) (mid r) → (t : ℕ) → c / 3 ^ r ≡ t
+        → backward (c / 3 ^ r ∷ coords (replicate r 3) (c % 3 ^ r)) ≡ ltb c (3 ^ r + mid r)
     go i zero e =
         let s : 0 * 3 ^ r + c % 3 ^ r ≡ c = rw e at (div-add-mod' c (3 ^ r)) in
         backward-cases (c / 3 ^ r) _ _ i .0 e ∙ sym (lt-ltb c (3 ^ r + mid r) (omega (arith, mod-lt c (three-pos r))))
@@ -72,7 +74,12 @@ backward-mid (suc r) c h = rw (size-threes r) (go (backward-mid r (c % 3 ^ r) (m
         backward-cases (c / 3 ^ r) _ _ i .1 e ∙ ltb-shift (3 ^ r) (c % 3 ^ r) (mid r) c (omega arith)
     go i (suc (suc t)) e =
         let s : suc (suc t) * 3 ^ r + c % 3 ^ r ≡ c = rw e at (div-add-mod' c (3 ^ r)) in
-        backward-cases (c / 3 ^ r) _ _ i .2 (omega arith) ∙ sym (le-ltb c (3 ^ r + mid r) (omega (arith, suc-mul (suc t) (3 ^ r), suc-mul t (3 ^ r), twice-mid r)))
+        backward-cases (c / 3 ^ r) _ _ i .2 (omega arith) ∙ sym (le-ltb c (3 ^ r + mid r) (omega (
+          arith,
+          suc-mul (suc t) (3 ^ r),
+          suc-mul t (3 ^ r),
+          twice-mid r,
+        )))
 
 -- backward is exactly the codes below the middle
 pub backward-below : (r c : ℕ) → c < 3 ^ r → backward (offset r c) ≡ ltb c (3 ^ r / 2)
@@ -158,29 +165,37 @@ pub moved-still : (xs : List ℕ) → Moved xs (replicate (length xs) 1) xs
 moved-still [] = unfold Moved zipWith in refl
 moved-still (x ∷ xs) = moved-cons x 1 x xs (replicate (length xs) 1) xs (omega arith) (moved-still xs)
 
-moved-last : (xs ts ys : List ℕ) (x t y : ℕ) → length xs ≡ length ts → length ys ≡ length xs → Moved (xs ++ x ∷ []) (ts ++ t ∷ []) (ys ++ y ∷ []) ↔ (Moved xs ts ys × (x + t ≡ suc y))
-moved-last [] [] [] x t y e f = (λ m. (unfold Moved zipWith in refl, moved-head x t y [] [] [] m .0), λ h. moved-cons x t y [] [] [] (h .1) (h .0))
+moved-last : (xs ts ys : List ℕ) (x t y : ℕ) → length xs ≡ length ts → length ys ≡ length xs
+    → Moved (xs ++ x ∷ []) (ts ++ t ∷ []) (ys ++ y ∷ []) ↔ (Moved xs ts ys × (x + t ≡ suc y))
+moved-last [] [] [] x t y e f =
+    (λ m. (unfold Moved zipWith in refl, moved-head x t y [] [] [] m .0), λ h. moved-cons x t y [] [] [] (h .1) (h .0))
 moved-last [] [] (c ∷ ys) x t y e f = absurd (omega arith)
 moved-last [] (b ∷ ts) ys x t y e f = absurd (omega arith)
 moved-last (a ∷ xs) [] ys x t y e f = absurd (omega arith)
 moved-last (a ∷ xs) (b ∷ ts) [] x t y e f = absurd (omega arith)
 moved-last (a ∷ xs) (b ∷ ts) (c ∷ ys) x t y e f =
     let i = moved-last xs ts ys x t y (omega arith) (omega arith) in (
-      λ m. let h = moved-head a b c (xs ++ x ∷ []) (ts ++ t ∷ []) (ys ++ y ∷ []) m in let j = i .0 (h .1) in (moved-cons a b c xs ts ys (h .0) (j .0), j .1),
-      λ h. let k = moved-head a b c xs ts ys (h .0) in moved-cons a b c (xs ++ x ∷ []) (ts ++ t ∷ []) (ys ++ y ∷ []) (k .0) (i .1 (k .1, h .1)),
+      λ m. let h = moved-head a b c (xs ++ x ∷ []) (ts ++ t ∷ []) (ys ++ y ∷ []) m in let j = i .0 (h .1) in
+          (moved-cons a b c xs ts ys (h .0) (j .0), j .1),
+      λ h. let k =
+          moved-head a b c xs ts ys (h .0) in moved-cons a b c (xs ++ x ∷ []) (ts ++ t ∷ []) (ys ++ y ∷ []) (k .0) (i .1 (k .1, h .1)),
     )
 
 -- an offset leads from p to q exactly where its leading part leads from p's line to q's, and its step from p's column to q's
 pub line-moved : (shape : List ℕ) (c p q : ℕ) → 0 < length shape → c < 3 ^ length shape → p < size shape → q < size shape
     → Moved (coords shape p) (offset (length shape) c) (coords shape q)
-    ↔ (Moved (coords (leading shape) (p / width shape)) (offset (length (leading shape)) (c / 3)) (coords (leading shape) (q / width shape)) × (p % width shape + c % 3 ≡ suc (q % width shape)))
+    ↔ (Moved (coords (leading shape) (p / width shape)) (offset (length (leading shape)) (c / 3))
+    (coords (leading shape) (q / width shape)) × (p % width shape + c % 3 ≡ suc (q % width shape)))
 line-moved shape c p q r hc hp hq =
     let e = length-leading shape r in
     let k : c < 3 ^ suc (length (leading shape)) = rw e at hc in
-    let o : offset (length shape) c ≡ offset (length (leading shape)) (c / 3) ++ c % 3 ∷ [] = ap (λ (n : ℕ). offset n c) e ∙ offset-last (length (leading shape)) c k in
+    let o : offset (length shape) c ≡ offset (length (leading shape)) (c / 3) ++ c % 3 ∷ [] = ap (λ (n : ℕ). offset n c) e
+    ∙ offset-last (length (leading shape)) c k in
     rw (coords-line shape p r hp, coords-line shape q r hq, o)
-    (moved-last (coords (leading shape) (p / width shape)) (offset (length (leading shape)) (c / 3)) (coords (leading shape) (q / width shape)) (p % width shape) (c % 3) (q % width shape)
-    (length-coords (leading shape) (p / width shape) ∙ sym (length-offset (length (leading shape)) (c / 3))) (length-coords (leading shape) (q / width shape) ∙ sym (length-coords (leading shape) (p / width shape))))
+    (moved-last (coords (leading shape) (p / width shape)) (offset (length (leading shape)) (c / 3))
+    (coords (leading shape) (q / width shape)) (p % width shape) (c % 3) (q % width shape)
+    (length-coords (leading shape) (p / width shape) ∙ sym (length-offset (length (leading shape)) (c / 3)))
+    (length-coords (leading shape) (q / width shape) ∙ sym (length-coords (leading shape) (p / width shape))))
 
 -- ---- the cell to the left
 
@@ -193,7 +208,8 @@ pred-digits m p pos ne =
     (rw e (digits-div (p / m) r), rw e (digits-mod (p / m) r))
 
 -- the left byte's offset leads to it
-pub left-moved : (shape : List ℕ) (p : ℕ) → 0 < length shape → p < size shape → (p % width shape ≡ 0 → ⊥) → Moved (coords shape p) (offset (length shape) (leftCode (length shape))) (coords shape (p - 1))
+pub left-moved : (shape : List ℕ) (p : ℕ) → 0 < length shape → p < size shape → (p % width shape ≡ 0 → ⊥)
+    → Moved (coords shape p) (offset (length shape) (leftCode (length shape))) (coords shape (p - 1))
 left-moved shape p r h ne = line-moved shape (leftCode (length shape)) p (p - 1) r hc h (omega (arith, h)) .1 (lead, along)
   where
     ds : List ℕ
@@ -220,7 +236,8 @@ left-moved shape p r h ne = line-moved shape (leftCode (length shape)) p (p - 1)
     lead : Moved (coords ds (p / width shape)) (offset (length ds) (leftCode (length shape) / 3)) (coords ds ((p - 1) / width shape))
     lead =
         rw (third, back .0, offset-mid (length ds))
-        (subst (λ (k : ℕ). Moved (coords ds (p / width shape)) (replicate k 1) (coords ds (p / width shape))) (length-coords ds (p / width shape)) (moved-still (coords ds (p / width shape))))
+        (subst (λ (k : ℕ). Moved (coords ds (p / width shape)) (replicate k 1) (coords ds (p / width shape)))
+        (length-coords ds (p / width shape)) (moved-still (coords ds (p / width shape))))
 
     along : p % width shape + leftCode (length shape) % 3 ≡ suc ((p - 1) % width shape)
     along = rw (last, back .1) (omega arith)
@@ -237,12 +254,14 @@ earlier-tail m p q e l =
     let s : q / m * m + p % m ≡ p = rw e at (div-add-mod' p m) in
     omega (arith, div-add-mod' q m)
 
-pub backward-earlier : (shape ts : List ℕ) (p q : ℕ) → p < size shape → q < size shape → length ts ≡ length shape → backward ts ≡ true → Moved (coords shape p) ts (coords shape q) → q < p
+pub backward-earlier : (shape ts : List ℕ) (p q : ℕ) → p < size shape → q < size shape → length ts ≡ length shape → backward ts ≡ true
+    → Moved (coords shape p) ts (coords shape q) → q < p
 unfolding coords size
 backward-earlier [] [] p q hp hq l b e = unfold backward in absurd (true≢false (sym b))
 backward-earlier [] (t ∷ ts) p q hp hq l b e = absurd (omega arith)
 backward-earlier (d ∷ ds) [] p q hp hq l b e = absurd (omega arith)
-backward-earlier (d ∷ ds) (t ∷ ts) p q hp hq l b e = go (backward ts) refl (eqb t 0) refl (eqb t 1) refl (backward-earlier ds ts (p % m) (q % m) (mod-lt p pos) (mod-lt q pos) (omega arith))
+backward-earlier (d ∷ ds) (t ∷ ts) p q hp hq l b e = go (backward ts) refl (eqb t 0) refl (eqb t 1) refl
+    (backward-earlier ds ts (p % m) (q % m) (mod-lt p pos) (mod-lt q pos) (omega arith))
   where
     m : ℕ
     m = size ds
@@ -253,8 +272,10 @@ backward-earlier (d ∷ ds) (t ∷ ts) p q hp hq l b e = go (backward ts) refl (
     h : (p / m + t ≡ suc (q / m)) × Moved (coords ds (p % m)) ts (coords ds (q % m))
     h = moved-head (p / m) t (q / m) (coords ds (p % m)) ts (coords ds (q % m)) e
 
-    go : (u : Bool) → backward ts ≡ u → (v : Bool) → eqb t 0 ≡ v → (w : Bool) → eqb t 1 ≡ w → (backward ts ≡ true → Moved (coords ds (p % m)) ts (coords ds (q % m)) → q % m < p % m) → q < p
+    go : (u : Bool) → backward ts ≡ u → (v : Bool) → eqb t 0 ≡ v → (w : Bool) → eqb t 1 ≡ w
+        → (backward ts ≡ true → Moved (coords ds (p % m)) ts (coords ds (q % m)) → q % m < p % m) → q < p
     go u eu true ev w ew below = let z = eqb-true t 0 ev in earlier-head m p q pos (omega (arith, h .0))
     go true eu false ev true ew below = let z = eqb-true t 1 ew in earlier-tail m p q (omega (arith, h .0)) (below eu (h .1))
     go false eu false ev true ew below = absurd (true≢false (sym b ∙ backward-cases t ts false eu .1 (eqb-true t 1 ew)))
-    go u eu false ev false ew below = let y = eqb-false t 0 ev in let z = eqb-false t 1 ew in absurd (true≢false (sym b ∙ backward-cases t ts u eu .2 (omega arith)))
+    go u eu false ev false ew below =
+        let y = eqb-false t 0 ev in let z = eqb-false t 1 ew in absurd (true≢false (sym b ∙ backward-cases t ts u eu .2 (omega arith)))

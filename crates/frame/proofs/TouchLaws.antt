@@ -27,8 +27,10 @@ used-backward structure rank k h = and-left (backward (offset rank k)) _ h
 pub used-below : (structure : List ℕ) (rank k : ℕ) → k < 3 ^ rank → used structure rank k ≡ true → k < mid rank
 used-below structure rank k l h = ltb-true _ _ (sym (backward-mid rank k l) ∙ used-backward structure rank k h)
 
-pub nbr-earlier : (ds structure : List ℕ) (ℓ k : ℕ) → ℓ < size ds → used structure (length ds) k ≡ true → hasNbr ds (offset (length ds) k) ℓ ≡ true → nbrLine ds (offset (length ds) k) ℓ < ℓ
-nbr-earlier ds structure ℓ k hl u h = nbr-before ds (offset (length ds) k) ℓ hl (length-offset (length ds) k) (used-backward structure (length ds) k u) h
+pub nbr-earlier : (ds structure : List ℕ) (ℓ k : ℕ) → ℓ < size ds → used structure (length ds) k ≡ true
+    → hasNbr ds (offset (length ds) k) ℓ ≡ true → nbrLine ds (offset (length ds) k) ℓ < ℓ
+nbr-earlier ds structure ℓ k hl u h =
+    nbr-before ds (offset (length ds) k) ℓ hl (length-offset (length ds) k) (used-backward structure (length ds) k u) h
 
 module _ (ds structure : List ℕ) (S : ℕ → ℕ) (R : ℕ → Run) where
   -- the lines of the touch's runs, current and neighbouring, and the reach by the offset with code k
@@ -56,17 +58,20 @@ module _ (ds structure : List ℕ) (S : ℕ → ℕ) (R : ℕ → Run) where
   -- ---- the list holds the touches, and nothing else
 
   by-from : (ℓ k : ℕ) (e : Edge) → List·Memᴰ e (touchesBy ds structure S R ℓ k)
-      → ((used structure (length ds) k && hasNbr ds (offset (length ds) k) ℓ) ≡ true) × Pair (reachBy k) (S ℓ) (S (suc ℓ) - S ℓ) (S (nbrOf ℓ k)) (S (suc (nbrOf ℓ k)) - S (nbrOf ℓ k)) e
+      → ((used structure (length ds) k && hasNbr ds (offset (length ds) k) ℓ) ≡ true) × Pair (reachBy k) (S ℓ) (S (suc ℓ) - S ℓ)
+      (S (nbrOf ℓ k)) (S (suc (nbrOf ℓ k)) - S (nbrOf ℓ k)) e
   unfolding touchesBy
   by-from ℓ k e m = go (used structure (length ds) k && hasNbr ds (offset (length ds) k) ℓ) m
     where
-      go : (b : Bool) → List·Memᴰ e (cond b (pairs (reachBy k) (S ℓ) (S (suc ℓ) - S ℓ) (S (nbrOf ℓ k)) (S (suc (nbrOf ℓ k)) - S (nbrOf ℓ k))) [])
+      go : (b : Bool)
+          → List·Memᴰ e (cond b (pairs (reachBy k) (S ℓ) (S (suc ℓ) - S ℓ) (S (nbrOf ℓ k)) (S (suc (nbrOf ℓ k)) - S (nbrOf ℓ k))) [])
           → (b ≡ true) × Pair (reachBy k) (S ℓ) (S (suc ℓ) - S ℓ) (S (nbrOf ℓ k)) (S (suc (nbrOf ℓ k)) - S (nbrOf ℓ k)) e
       go true h = (refl, pairs-from (reachBy k) (S ℓ) (S (suc ℓ) - S ℓ) (S (nbrOf ℓ k)) (S (suc (nbrOf ℓ k)) - S (nbrOf ℓ k)) e h)
       go false h = absurd (List·Memᴰ·not-nil h)
 
   from-by : (ℓ k : ℕ) (e : Edge) → used structure (length ds) k ≡ true → hasNbr ds (offset (length ds) k) ℓ ≡ true
-      → Pair (reachBy k) (S ℓ) (S (suc ℓ) - S ℓ) (S (nbrOf ℓ k)) (S (suc (nbrOf ℓ k)) - S (nbrOf ℓ k)) e → List·Memᴰ e (touchesBy ds structure S R ℓ k)
+      → Pair (reachBy k) (S ℓ) (S (suc ℓ) - S ℓ) (S (nbrOf ℓ k)) (S (suc (nbrOf ℓ k)) - S (nbrOf ℓ k)) e → List·Memᴰ e
+      (touchesBy ds structure S R ℓ k)
   unfolding touchesBy
   from-by ℓ k e u h p = rw (u, h) (from-pairs (reachBy k) (S ℓ) (S (suc ℓ) - S ℓ) (S (nbrOf ℓ k)) (S (suc (nbrOf ℓ k)) - S (nbrOf ℓ k)) e p)
 
@@ -101,7 +106,17 @@ module _ (ds structure : List ℕ) (S : ℕ → ℕ) (R : ℕ → Run) where
       from-gather (touchesOf ds structure S R) a n (T .line) (T .line-low) (T .line-high)
       (from-gather (touchesBy ds structure S R (T .line)) 0 (3 ^ length ds) (T .lead) low high
       (from-by (T .line) (T .lead) _ (T .is-used) (T .has-nbr)
-      (record { from-low = T .r-low; from-high = omega (arith, T .r-low, T .r-high); to-low = T .s-low; to-high = omega (arith, T .s-low, T .s-high); passes = T .reached })))
+      (record {
+        from-low = T .r-low;
+        from-high = omega (arith, T .r-low, T .r-high);
+        to-low = T .s-low;
+        to-high = omega (
+          arith,
+          T .s-low,
+          T .s-high,
+        );
+        passes = T .reached;
+      })))
 
   -- ---- pieces
 
@@ -127,7 +142,8 @@ module _ (ds structure : List ℕ) (S : ℕ → ℕ) (R : ℕ → Run) where
         (λ e m. let k = touch-below a n (e .from) (e .to) h (touches-from a n (e .from) (e .to) m) in (k .0, omega arith))
 
 -- where the runs of line ℓ and of the lines before it are the same, so are its touches by each code
-module _ (ds structure : List ℕ) (S Z : ℕ → ℕ) (R Q : ℕ → Run) (ℓ k : ℕ) (within : ℓ < size ds) (starts : (m : ℕ) → m ≤ suc ℓ → S m ≡ Z m) (same : (m r : ℕ) → m ≤ ℓ → S m ≤ r → r < S m + (S (suc m) - S m) → R r ≡ Q r) where
+module _ (ds structure : List ℕ) (S Z : ℕ → ℕ) (R Q : ℕ → Run) (ℓ k : ℕ) (within : ℓ < size ds) (starts : (m : ℕ) → m ≤ suc ℓ → S m ≡ Z m)
+    (same : (m r : ℕ) → m ≤ ℓ → S m ≤ r → r < S m + (S (suc m) - S m) → R r ≡ Q r) where
   pub by-same : touchesBy ds structure S R ℓ k ≡ touchesBy ds structure Z Q ℓ k
   unfolding touchesBy
   by-same = go (used structure (length ds) k) refl (hasNbr ds (offset (length ds) k) ℓ) refl
@@ -136,19 +152,25 @@ module _ (ds structure : List ℕ) (S Z : ℕ → ℕ) (R Q : ℕ → Run) (ℓ 
       M = nbrLine ds (offset (length ds) k) ℓ
 
       T : (ℕ → ℕ) → (ℕ → Run) → List Edge
-      T U P = pairs (λ r s. reaches (on structure (3 * k)) (on structure (3 * k + 1)) (on structure (3 * k + 2)) (P s) (P r)) (U ℓ) (U (suc ℓ) - U ℓ) (U M) (U (suc M) - U M)
+      T U P = pairs (λ r s. reaches (on structure (3 * k)) (on structure (3 * k + 1)) (on structure (3 * k + 2)) (P s) (P r)) (U ℓ)
+          (U (suc ℓ) - U ℓ) (U M) (U (suc M) - U M)
 
       go : (u : Bool) → used structure (length ds) k ≡ u → (t : Bool) → hasNbr ds (offset (length ds) k) ℓ ≡ t
-          → cond (used structure (length ds) k && hasNbr ds (offset (length ds) k) ℓ) (T S R) [] ≡ cond (used structure (length ds) k && hasNbr ds (offset (length ds) k) ℓ) (T Z Q) []
+          → cond (used structure (length ds) k && hasNbr ds (offset (length ds) k) ℓ) (T S R) [] ≡ cond
+          (used structure (length ds) k && hasNbr ds (offset (length ds) k) ℓ) (T Z Q) []
       go false eu t et = rw eu
       go true eu false et = rw (eu, et)
       go true eu true et =
           let m : M < ℓ = nbr-earlier ds structure ℓ k within eu et in
-          let q : T S R ≡ T S Q = pairs-same _ _ (S ℓ) (S (suc ℓ) - S ℓ) (S M) (S (suc M) - S M) (λ r s lr ur ls us. rw (same ℓ r (omega arith) lr ur, same M s (omega arith) ls us)) in
+          let q : T S R ≡ T S Q = pairs-same _ _ (S ℓ) (S (suc ℓ) - S ℓ) (S M) (S (suc M) - S M) (λ r s lr ur ls us. rw (
+            same ℓ r (omega arith) lr ur,
+            same M s (omega arith) ls us,
+          )) in
           rw (eu, et) (q ∙ rw (starts ℓ (omega arith), starts (suc ℓ) (omega arith), starts M (omega arith), starts (suc M) (omega arith)))
 
 -- where the runs of the first b lines are the same, so are their touches
-module _ (ds structure : List ℕ) (S Z : ℕ → ℕ) (R Q : ℕ → Run) (b : ℕ) (starts : (ℓ : ℕ) → ℓ ≤ b → S ℓ ≡ Z ℓ) (rise : (x y : ℕ) → x ≤ y → S x ≤ S y) (same : (r : ℕ) → r < S b → R r ≡ Q r) where
+module _ (ds structure : List ℕ) (S Z : ℕ → ℕ) (R Q : ℕ → Run) (b : ℕ) (starts : (ℓ : ℕ) → ℓ ≤ b → S ℓ ≡ Z ℓ)
+    (rise : (x y : ℕ) → x ≤ y → S x ≤ S y) (same : (r : ℕ) → r < S b → R r ≡ Q r) where
   lines-same : (ℓ k : ℕ) → b ≤ size ds → ℓ < b → touchesBy ds structure S R ℓ k ≡ touchesBy ds structure Z Q ℓ k
   lines-same ℓ k hb hl =
       by-same ds structure S Z R Q ℓ k (omega arith) (λ m h. starts m (omega arith))
@@ -158,7 +180,8 @@ module _ (ds structure : List ℕ) (S Z : ℕ → ℕ) (R Q : ℕ → Run) (b : 
   unfolding touches touchesOf
   touches-same hb a n h =
       gather-same (touchesOf ds structure S R) (touchesOf ds structure Z Q) a n
-      (λ ℓ l u. gather-same (touchesBy ds structure S R ℓ) (touchesBy ds structure Z Q ℓ) 0 (3 ^ length ds) (λ k z v. lines-same ℓ k hb (omega arith)))
+      (λ ℓ l u. gather-same (touchesBy ds structure S R ℓ) (touchesBy ds structure Z Q ℓ) 0 (3 ^ length ds)
+      (λ k z v. lines-same ℓ k hb (omega arith)))
 
 -- touches look at no byte past those of one dimension more than the leading ones
 module _ (ds a b : List ℕ) (S : ℕ → ℕ) (R : ℕ → Run) (same : (c : ℕ) → c < 3 ^ suc (length ds) → getD a c 0 ≡ getD b c 0) where

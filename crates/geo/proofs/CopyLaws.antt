@@ -18,7 +18,14 @@ zeros-left n i h = let e : n - i ≡ suc (n - suc i) = omega arith in ap (λ (k 
 
 pub front-turn : (n : ℕ) (s l : List ℕ) (i : ℕ) → l ≡ front n s i → i < length s → length s ≤ n → set l i (getD s i 0) ≡ front n s (i + 1)
 front-turn n s l i e hs hn =
-    rw (e, zeros-left n i (omega arith), set-at (take i s) 0 (replicate (n - suc i) 0) (getD s i 0) i (length-take-le i s (omega arith)), add-one, take-suc s i 0 hs, append-snoc)
+    rw (
+      e,
+      zeros-left n i (omega arith),
+      set-at (take i s) 0 (replicate (n - suc i) 0) (getD s i 0) i (length-take-le i s (omega arith)),
+      add-one,
+      take-suc s i 0 hs,
+      append-snoc,
+    )
 
 pub front-done : (n : ℕ) (s l : List ℕ) (i : ℕ) → l ≡ front n s i → i ≡ length s → l ≡ padded n s
 unfolding padded

@@ -36,7 +36,8 @@ unfolding badRank
 bad-rank-is shape rank r e h = h ∙ ap (λ (k : ℕ). eqb k 0 || ltb 4 k) (sym e)
 
 pub rank-limits : (rank : ℕ) (shape : List ℕ) → badRank (entries rank shape) ≡ false → (1 ≤ rank) × (rank ≤ 4)
-rank-limits rank shape h = let r = rank-right (entries rank shape) h in let e = length-entries rank shape in (omega (arith, r .0), omega (arith, r .1))
+rank-limits rank shape h =
+    let r = rank-right (entries rank shape) h in let e = length-entries rank shape in (omega (arith, r .0), omega (arith, r .1))
 
 -- ---- leading dimensions
 

@@ -26,7 +26,8 @@ use Rattle.geo.proofs.LeftLaws.{left-is}
 
 -- ---- limits
 
-pub within-limits : (shape : List ℕ) → tooLarge shape ≡ false → (width shape < 2147483647) × (lines shape < 4294967293) × (size shape < 4294967293)
+pub within-limits : (shape : List ℕ) → tooLarge shape ≡ false
+    → (width shape < 2147483647) × (lines shape < 4294967293) × (size shape < 4294967293)
 unfolding tooLarge
 within-limits shape h =
     let f = or₃-false (leb 2147483647 (width shape)) (leb 4294967293 (lines shape)) (leb 4294967293 (size shape)) h in
@@ -34,14 +35,17 @@ within-limits shape h =
 
 -- a number may be counted up to the limit that it is held to
 limited-test : (M x y : ℕ) → y ≡ min x M → leb M y ≡ leb M x
-limited-test M x y e = bool-same (leb M y) (leb M x) (λ t. le-leb M x (omega (arith, leb-true M y t))) (λ t. le-leb M y (omega (arith, leb-true M x t)))
+limited-test M x y e =
+    bool-same (leb M y) (leb M x) (λ t. le-leb M x (omega (arith, leb-true M y t))) (λ t. le-leb M y (omega (arith, leb-true M x t)))
 
 module _ (g : Geo) where
   -- so may the cells
-  pub large-is : (c : ℕ) → c ≡ min (g .lines * g .width) 4294967293 → (leb 2147483647 (g .width) || leb 4294967293 (g .lines)) || leb 4294967293 c ≡ largeGeo g
+  pub large-is : (c : ℕ) → c ≡ min (g .lines * g .width) 4294967293
+      → (leb 2147483647 (g .width) || leb 4294967293 (g .lines)) || leb 4294967293 c ≡ largeGeo g
   large-is c is =
       or-assoc (leb 2147483647 (g .width)) (leb 4294967293 (g .lines)) (leb 4294967293 c)
-      ∙ ap (λ (t : Bool). leb 2147483647 (g .width) || (leb 4294967293 (g .lines) || t)) (limited-test 4294967293 (g .lines * g .width) c is)
+      ∙ ap (λ (t : Bool). leb 2147483647 (g .width) || (leb 4294967293 (g .lines) || t))
+      (limited-test 4294967293 (g .lines * g .width) c is)
 
   pub not-large : largeGeo g ≡ false → WithinLimits g
   not-large h =
@@ -62,7 +66,9 @@ module _ (g : Geo) where
 
 -- a shape and a structure as numbers
 module _ (rank : ℕ) (shape structure : List ℕ) (A : ShapeReady rank shape structure) where
-  pub measured : (dims : List ℕ) (l w : ℕ) (left : Bool) → dims ≡ three rank shape → l ≡ min (size dims) 4294967293 → w ≡ width (entries rank shape) → left ≡ on structure (leftCode rank) → Measured rank shape structure (record { leads = rank - 1; dims = dims; lines = l; width = w; left = left })
+  pub measured : (dims : List ℕ) (l w : ℕ) (left : Bool) → dims ≡ three rank shape → l ≡ min (size dims) 4294967293
+      → w ≡ width (entries rank shape) → left ≡ on structure (leftCode rank) → Measured rank shape structure
+      (record { leads = rank - 1; dims = dims; lines = l; width = w; left = left })
   measured dims l w left is-dims is-l is-w is-left =
       let r = rank-limits rank shape (A .ranked) in
       record {
@@ -73,7 +79,8 @@ module _ (rank : ℕ) (shape structure : List ℕ) (A : ShapeReady rank shape st
         left-is = is-left ∙ left-is rank shape structure (r .0);
       }
 
-module _ (rank : ℕ) (shape structure : List ℕ) (ranked : badRank (entries rank shape) ≡ false) (g : Geo) (G : Measured rank shape structure g) where
+module _ (rank : ℕ) (shape structure : List ℕ) (ranked : badRank (entries rank shape) ≡ false) (g : Geo)
+    (G : Measured rank shape structure g) where
   -- ---- causes 3 and 4 of the shape are those of its geometry
 
   pub measured-zero : hasZero (g .dims) ≡ hasZero (leading (entries rank shape))
@@ -83,7 +90,8 @@ module _ (rank : ℕ) (shape structure : List ℕ) (ranked : badRank (entries ra
   unfolding tooLarge
   measured-large =
       ap (λ (k : ℕ). leb 2147483647 k || (leb 4294967293 (g .lines) || leb 4294967293 (g .lines * g .width))) (G .width-is)
-      ∙ ap₂ (λ (a : Bool) (b : Bool). leb 2147483647 (width (entries rank shape)) || (a || b)) (limited-test 4294967293 (lines (entries rank shape)) (g .lines) (G .lines-limited)) cells
+      ∙ ap₂ (λ (a : Bool) (b : Bool). leb 2147483647 (width (entries rank shape)) || (a || b))
+      (limited-test 4294967293 (lines (entries rank shape)) (g .lines) (G .lines-limited)) cells
     where
       limited : min (g .lines * g .width) 4294967293 ≡ min (size (entries rank shape)) 4294967293
       limited =
@@ -92,7 +100,9 @@ module _ (rank : ℕ) (shape structure : List ℕ) (ranked : badRank (entries ra
           ∙ ap (λ (k : ℕ). min k 4294967293) (sym (size-lines (entries rank shape)))
 
       cells : leb 4294967293 (g .lines * g .width) ≡ leb 4294967293 (size (entries rank shape))
-      cells = sym (limited-test 4294967293 (g .lines * g .width) (min (g .lines * g .width) 4294967293) refl) ∙ limited-test 4294967293 (size (entries rank shape)) (min (g .lines * g .width) 4294967293) limited
+      cells =
+          sym (limited-test 4294967293 (g .lines * g .width) (min (g .lines * g .width) 4294967293) refl)
+          ∙ limited-test 4294967293 (size (entries rank shape)) (min (g .lines * g .width) 4294967293) limited
 
   -- ---- where it is not too large
 
@@ -112,7 +122,9 @@ module _ (rank : ℕ) (shape structure : List ℕ) (ranked : badRank (entries ra
         let r = ranks in
         record {
           few = omega (arith, G .rank-is);
-          ones = ap (take (3 - g .leads)) (G .dims-are) ∙ take-at (replicate (4 - rank) 1) (leading (entries rank shape)) (3 - g .leads) before ∙ ap (λ (k : ℕ). replicate {A = ℕ} k 1) (sym (length-replicate (4 - rank) 1) ∙ before);
+          ones =
+              ap (take (3 - g .leads)) (G .dims-are) ∙ take-at (replicate (4 - rank) 1) (leading (entries rank shape)) (3 - g .leads) before
+              ∙ ap (λ (k : ℕ). replicate {A = ℕ} k 1) (sym (length-replicate (4 - rank) 1) ∙ before);
           product = lines-are ∙ sym (ap size (G .dims-are) ∙ three-size rank shape);
           small = omega (arith, lines-are, within-limits (entries rank shape) limits .1);
         }
@@ -121,7 +133,9 @@ module _ (rank : ℕ) (shape structure : List ℕ) (ranked : badRank (entries ra
     measured-geo =
         record {
           rank-is = G .rank-is;
-          leading-is = ap (drop (3 - g .leads)) (G .dims-are) ∙ drop-at (replicate (4 - rank) 1) (leading (entries rank shape)) (3 - g .leads) before;
+          leading-is =
+              ap (drop (3 - g .leads)) (G .dims-are)
+              ∙ drop-at (replicate (4 - rank) 1) (leading (entries rank shape)) (3 - g .leads) before;
           three = three-dims;
           lines-is = lines-are;
           width-is = G .width-is;
@@ -130,6 +144,7 @@ module _ (rank : ℕ) (shape structure : List ℕ) (ranked : badRank (entries ra
 
 -- ---- the words needed
 
-pub geo-words : (rank : ℕ) (shape structure : List ℕ) (g : Geo) → GeoOf rank shape structure g → wordsOf g ≡ wordsNeeded (entries rank shape) (entries (3 ^ rank) structure)
+pub geo-words : (rank : ℕ) (shape structure : List ℕ) (g : Geo) → GeoOf rank shape structure g
+    → wordsOf g ≡ wordsNeeded (entries rank shape) (entries (3 ^ rank) structure)
 unfolding wordsNeeded perLine
 geo-words rank shape structure g G = rw (G .lines-is, G .width-is, G .left-is)

@@ -21,7 +21,8 @@ power-three rank h =
     rw e (omega (arith, pow-succ' 3 (rank - 1)))
 
 -- it is among those bytes
-pub left-is : (rank : ℕ) (shape structure : List ℕ) → 1 ≤ rank → on structure (leftCode rank) ≡ leftOn (entries rank shape) (entries (3 ^ rank) structure)
+pub left-is : (rank : ℕ) (shape structure : List ℕ) → 1 ≤ rank
+    → on structure (leftCode rank) ≡ leftOn (entries rank shape) (entries (3 ^ rank) structure)
 unfolding leftOn on
 left-is rank shape structure h =
     let p = power-three rank h in

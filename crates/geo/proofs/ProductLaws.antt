@@ -32,10 +32,12 @@ limited-step M x (suc d) = min-cases x M (min (min x M * suc d) M ≡ min (x * s
         ap (λ (k : ℕ). min (k * suc d) M) e ∙ (omega (arith, p, q))
 
 -- three in turn
-pub limited-three : (M : ℕ) (dims : List ℕ) (p q r : ℕ) → length dims ≡ 3 → p ≡ min (1 * getD dims 0 0) M → q ≡ min (p * getD dims 1 0) M → r ≡ min (q * getD dims 2 0) M → r ≡ min (size dims) M
+pub limited-three : (M : ℕ) (dims : List ℕ) (p q r : ℕ) → length dims ≡ 3 → p ≡ min (1 * getD dims 0 0) M → q ≡ min (p * getD dims 1 0) M
+    → r ≡ min (q * getD dims 2 0) M → r ≡ min (size dims) M
 limited-three M dims p q r three is-p is-q is-r =
     is-r
-    ∙ ap (λ (k : ℕ). min (k * getD dims 2 0) M) (is-q ∙ ap (λ (k : ℕ). min (k * getD dims 1 0) M) is-p ∙ limited-step M (1 * getD dims 0 0) (getD dims 1 0))
+    ∙ ap (λ (k : ℕ). min (k * getD dims 2 0) M)
+    (is-q ∙ ap (λ (k : ℕ). min (k * getD dims 1 0) M) is-p ∙ limited-step M (1 * getD dims 0 0) (getD dims 1 0))
     ∙ limited-step M (1 * getD dims 0 0 * getD dims 1 0) (getD dims 2 0)
     ∙ ap (λ (k : ℕ). min k M) (product (getD dims 0 0) (getD dims 1 0) (getD dims 2 0) ∙ ap size (sym (three-entries 0 dims three)))
   where

@@ -34,8 +34,15 @@ bytes-few (suc (suc (suc (suc zero)))) h = omega arith
 bytes-few (suc (suc (suc (suc (suc n))))) h = absurd (omega arith)
 
 -- so a record's arrays have the structure's bytes
-pub array-ready : (rank : ℕ) (shape structure : List ℕ) → length structure ≡ 81 → badRank (entries rank shape) ≡ false → ShapeReady rank shape structure
-array-ready rank shape structure long ranked = record { ranked = ranked; bytes = omega (arith, bytes-few rank (rank-limits rank shape ranked .1)) }
+pub array-ready : (rank : ℕ) (shape structure : List ℕ) → length structure ≡ 81 → badRank (entries rank shape) ≡ false
+    → ShapeReady rank shape structure
+array-ready rank shape structure long ranked = record {
+  ranked = ranked;
+  bytes = omega (
+    arith,
+    bytes-few rank (rank-limits rank shape ranked .1),
+  );
+}
 
 module _ (dims bytes : List ℕ) (memory fed : ℕ) where
   -- ---- the test decides
@@ -73,12 +80,15 @@ module _ (dims bytes : List ℕ) (memory fed : ℕ) where
 
 -- ---- of a record's arrays, where the rank is 1 to 4, by their geometry
 
-module _ (rank : ℕ) (shape structure : List ℕ) (ranked : badRank (entries rank shape) ≡ false) (g : Geo) (G : Measured rank shape structure g) (memory fed : ℕ) where
+module _ (rank : ℕ) (shape structure : List ℕ) (ranked : badRank (entries rank shape) ≡ false) (g : Geo)
+    (G : Measured rank shape structure g) (memory fed : ℕ) where
   abbrev told : Bool
   told = shapeSound (entries rank shape) (entries (3 ^ rank) structure) memory fed
 
   pub dims-break : hasZero (g .dims) || largeGeo g ≡ true → false ≡ told
-  dims-break h = shape-unsound _ _ memory fed (λ A. true≢false (sym h ∙ ap₂ _||_ (measured-zero rank shape structure ranked g G ∙ A .dimensions) (measured-large rank shape structure ranked g G ∙ A .limits)))
+  dims-break h = shape-unsound _ _ memory fed
+      (λ A. true≢false (sym h ∙ ap₂ _||_ (measured-zero rank shape structure ranked g G ∙ A .dimensions)
+      (measured-large rank shape structure ranked g G ∙ A .limits)))
 
   -- where they do not, memory and lines fed decide
   module _ (h : hasZero (g .dims) || largeGeo g ≡ false) where
@@ -111,4 +121,6 @@ module _ (rank : ℕ) (shape structure : List ℕ) (ranked : badRank (entries ra
           memory = omega (arith, is, words-are, leb-true needed memory (and-left (leb needed memory) (leb fed (g .lines)) t));
           within = omega (arith, found-geo .lines-is, leb-true fed (g .lines) (and-right (leb needed memory) (leb fed (g .lines)) t));
         }))
-        (λ t. let A = shape-sound-right _ _ memory fed t in and-true (leb needed memory) (leb fed (g .lines)) (le-leb needed memory (omega (arith, is, words-are, A .memory))) (le-leb fed (g .lines) (omega (arith, found-geo .lines-is, A .within))))
+        (λ t. let A = shape-sound-right _ _ memory fed t in and-true (leb needed memory) (leb fed (g .lines))
+        (le-leb needed memory (omega (arith, is, words-are, A .memory)))
+        (le-leb fed (g .lines) (omega (arith, found-geo .lines-is, A .within))))

@@ -24,6 +24,7 @@ module _ {R : ℕ → ℕ → Type 0} where
   chain-refl {a} e = subst (λ (k : ℕ). Chain R a k) e one
 
 -- a map of nodes takes chains to chains, where it takes each step to one
-pub chain-bind : {R S : ℕ → ℕ → Type 0} (f : ℕ → ℕ) → ((a b : ℕ) → R a b → Chain S (f a) (f b)) → {a b : ℕ} → Chain R a b → Chain S (f a) (f b)
+pub chain-bind : {R S : ℕ → ℕ → Type 0} (f : ℕ → ℕ) → ((a b : ℕ) → R a b → Chain S (f a) (f b)) → {a b : ℕ} → Chain R a b
+    → Chain S (f a) (f b)
 chain-bind f h one = one
 chain-bind f h (more r k) = chain-trans (h _ _ r) (chain-bind f h k)

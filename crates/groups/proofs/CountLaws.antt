@@ -15,12 +15,14 @@ count-same f g zero h = refl
 count-same f g (suc n) h = ap₂ (λ (b : Bool) (k : ℕ). cond b 1 0 + k) (h n (le-refl (suc n))) (count-same f g n (λ a k. h a (omega arith)))
 
 -- the two tests differ at m alone, which f keeps
-pub count-drop : (f g : ℕ → Bool) (n m : ℕ) → m < n → f m ≡ true → g m ≡ false → ((a : ℕ) → (a ≡ m → ⊥) → f a ≡ g a) → count f n ≡ suc (count g n)
+pub count-drop : (f g : ℕ → Bool) (n m : ℕ) → m < n → f m ≡ true → g m ≡ false → ((a : ℕ) → (a ≡ m → ⊥) → f a ≡ g a)
+    → count f n ≡ suc (count g n)
 unfolding count
 count-drop f g zero m h p q s = absurd (not-suc-le-zero h)
 count-drop f g (suc n) m h p q s = go (eqb n m) refl (count-drop f g n m)
   where
-    go : (b : Bool) → eqb n m ≡ b → (m < n → f m ≡ true → g m ≡ false → ((a : ℕ) → (a ≡ m → ⊥) → f a ≡ g a) → count f n ≡ suc (count g n)) → cond (f n) 1 0 + count f n ≡ suc (cond (g n) 1 0 + count g n)
+    go : (b : Bool) → eqb n m ≡ b → (m < n → f m ≡ true → g m ≡ false → ((a : ℕ) → (a ≡ m → ⊥) → f a ≡ g a) → count f n ≡ suc (count g n))
+        → cond (f n) 1 0 + count f n ≡ suc (cond (g n) 1 0 + count g n)
     go true t below =
         let e = eqb-true n m t in
         let fn : f n ≡ true = rw e p in
@@ -65,7 +67,9 @@ module _ (f : ℕ → Bool) where
   count-reach zero k h l = absurd (omega (arith, count-none))
   count-reach (suc n) k h l = go (leb k (count f n)) refl (f n) refl (count-reach n k h)
     where
-      go : (t : Bool) → leb k (count f n) ≡ t → (b : Bool) → f n ≡ b → (k ≤ count f n → (q : ℕ) × (q < n) × (f q ≡ true) × (count f (suc q) ≡ k)) → (q : ℕ) × (q < suc n) × (f q ≡ true) × (count f (suc q) ≡ k)
+      go : (t : Bool) → leb k (count f n) ≡ t → (b : Bool) → f n ≡ b
+          → (k ≤ count f n → (q : ℕ) × (q < n) × (f q ≡ true) × (count f (suc q) ≡ k)) → (q : ℕ) × (q < suc n) × (f q ≡ true)
+          × (count f (suc q) ≡ k)
       go true t b e below = let r = below (leb-true _ _ t) in (r .0, omega arith, r .2, r .3)
       go false t true e below = let m = leb-false k (count f n) t in (n, omega arith, e, omega (arith, count-on n e))
       go false t false e below = let m = leb-false k (count f n) t in absurd (omega (arith, count-off n e))
@@ -113,7 +117,8 @@ place-right f (suc n) r h = go (f n) refl (eqb (count f n) r) refl (place-right 
     wider : (k : ℕ) → Placed f n r k → Placed f (suc n) r k
     wider k P = record { under = omega (arith, P .under); passes = P .passes; rank = P .rank }
 
-    go : (b : Bool) → f n ≡ b → (c : Bool) → eqb (count f n) r ≡ c → (r < count f n → Placed f n r (place f n r)) → Placed f (suc n) r (cond (f n && eqb (count f n) r) n (place f n r))
+    go : (b : Bool) → f n ≡ b → (c : Bool) → eqb (count f n) r ≡ c → (r < count f n → Placed f n r (place f n r))
+        → Placed f (suc n) r (cond (f n && eqb (count f n) r) n (place f n r))
     go true e true t below = rw (e, t) (record { under = le-refl (suc n); passes = e; rank = eqb-true _ _ t })
     go true e false t below = rw (e, t) (wider _ (below (let ne = eqb-false (count f n) r t in omega (arith, count-on f n e))))
     go false e c t below = rw e (wider _ (below (omega (arith, count-off f n e))))

@@ -22,14 +22,16 @@ module _ (e : Edge) (es : List Edge) where
   unfolding lost
   lost-root = go (leb (rep es (e .from)) (rep es (e .to))) refl
     where
-      go : (b : Bool) → leb (rep es (e .from)) (rep es (e .to)) ≡ b → rep es (max (rep es (e .from)) (rep es (e .to))) ≡ max (rep es (e .from)) (rep es (e .to))
+      go : (b : Bool) → leb (rep es (e .from)) (rep es (e .to)) ≡ b
+          → rep es (max (rep es (e .from)) (rep es (e .to))) ≡ max (rep es (e .from)) (rep es (e .to))
       go true t = rw (max-eq-right (leb-true _ _ t)) (rep-rep es (e .to))
       go false t = rw (max-eq-left (le-of-lt (leb-false _ _ t))) (rep-rep es (e .from))
 
   kept-root : rep es (min (rep es (e .from)) (rep es (e .to))) ≡ min (rep es (e .from)) (rep es (e .to))
   kept-root = go (leb (rep es (e .from)) (rep es (e .to))) refl
     where
-      go : (b : Bool) → leb (rep es (e .from)) (rep es (e .to)) ≡ b → rep es (min (rep es (e .from)) (rep es (e .to))) ≡ min (rep es (e .from)) (rep es (e .to))
+      go : (b : Bool) → leb (rep es (e .from)) (rep es (e .to)) ≡ b
+          → rep es (min (rep es (e .from)) (rep es (e .to))) ≡ min (rep es (e .from)) (rep es (e .to))
       go true t = rw (min-eq-left (leb-true _ _ t)) (rep-rep es (e .from))
       go false t = rw (min-eq-right (le-of-lt (leb-false _ _ t))) (rep-rep es (e .to))
 
@@ -40,16 +42,19 @@ module _ (e : Edge) (es : List Edge) where
 
     lost-after : isRoot (e ∷ es) lost ≡ false
     unfolding isRoot rep lost
-    lost-after = ne-eqb (rep (e ∷ es) lost) lost (λ q. differ (let r = merge-hit (rep es (e .from)) (rep es (e .to)) (rep es lost) lost-root in omega arith))
+    lost-after = ne-eqb (rep (e ∷ es) lost) lost
+        (λ q. differ (let r = merge-hit (rep es (e .from)) (rep es (e .to)) (rep es lost) lost-root in omega arith))
 
     others : (a : ℕ) → (a ≡ lost → ⊥) → isRoot es a ≡ isRoot (e ∷ es) a
     unfolding isRoot rep Merged lost
     others a ne = go (merged (rep es (e .from)) (rep es (e .to)) (rep es a))
       where
-        go : Merged (rep es (e .from)) (rep es (e .to)) (rep es a) → eqb (rep es a) a ≡ eqb (merge (rep es (e .from)) (rep es (e .to)) (rep es a)) a
+        go : Merged (rep es (e .from)) (rep es (e .to)) (rep es a)
+            → eqb (rep es a) a ≡ eqb (merge (rep es (e .from)) (rep es (e .to)) (rep es a)) a
         go (inl h) =
             ne-eqb (rep es a) a (λ q. ne (sym q ∙ h .0))
-            ∙ sym (ne-eqb (merge (rep es (e .from)) (rep es (e .to)) (rep es a)) a (λ q. differ (let k = ap (rep es) (sym q ∙ h .1) ∙ kept-root in omega arith)))
+            ∙ sym (ne-eqb (merge (rep es (e .from)) (rep es (e .to)) (rep es a)) a
+            (λ q. differ (let k = ap (rep es) (sym q ∙ h .1) ∙ kept-root in omega arith)))
         go (inr h) = rw (h .1) refl
 
   lost-below : (n : ℕ) → e .from < n → e .to < n → lost < n
@@ -57,7 +62,8 @@ module _ (e : Edge) (es : List Edge) where
   lost-below n hf ht = omega (arith, rep-le es (e .from), rep-le es (e .to))
 
   -- one group fewer
-  pub groups-join : (live : ℕ → Bool) (n : ℕ) → (rep es (e .from) ≡ rep es (e .to) → ⊥) → e .from < n → e .to < n → live lost ≡ true → groups live es n ≡ suc (groups live (e ∷ es) n)
+  pub groups-join : (live : ℕ → Bool) (n : ℕ) → (rep es (e .from) ≡ rep es (e .to) → ⊥) → e .from < n → e .to < n → live lost ≡ true
+      → groups live es n ≡ suc (groups live (e ∷ es) n)
   unfolding groups
   groups-join live n differ hf ht al =
       count-drop (λ a. live a && isRoot es a) (λ a. live a && isRoot (e ∷ es) a) n lost (lost-below n hf ht)
@@ -92,12 +98,14 @@ pub groups-edge : (live : ℕ → Bool) (n : ℕ) (e : Edge) (es : List Edge) �
     → groups live es n ≡ cond (eqb (rep es (e .from)) (rep es (e .to))) 0 1 + groups live (e ∷ es) n
 groups-edge live n e es w v = go (eqb (rep es (e .from)) (rep es (e .to))) refl
   where
-    go : (b : Bool) → eqb (rep es (e .from)) (rep es (e .to)) ≡ b → groups live es n ≡ cond (eqb (rep es (e .from)) (rep es (e .to))) 0 1 + groups live (e ∷ es) n
+    go : (b : Bool) → eqb (rep es (e .from)) (rep es (e .to)) ≡ b
+        → groups live es n ≡ cond (eqb (rep es (e .from)) (rep es (e .to))) 0 1 + groups live (e ∷ es) n
     go true t = let s = groups-idle e es live n (eqb-true _ _ t) in rw t (omega arith)
     go false t = let s = groups-join e es live n (eqb-false _ _ t) (w .0) (w .1) (lost-live live e es v) in rw t (omega arith)
 
 -- groups and joins together are the live nodes
-pub groups-joins : (live : ℕ → Bool) (n : ℕ) (es : List Edge) → Ends (λ a. a < n) es → Ends (λ a. live a ≡ true) es → groups live es n + joins es ≡ count live n
+pub groups-joins : (live : ℕ → Bool) (n : ℕ) (es : List Edge) → Ends (λ a. a < n) es → Ends (λ a. live a ≡ true) es
+    → groups live es n + joins es ≡ count live n
 unfolding joins
 groups-joins live n [] w v = let e = no-edges live n in omega arith
 groups-joins live n (e ∷ es) w v = omega (arith, groups-joins live n es (w .2) (v .2), groups-edge live n e es w v)
@@ -114,7 +122,8 @@ unfolding groups isRoot
 groups-over live es fs n h = count-same _ _ n (λ a l. ap (λ (k : ℕ). live a && eqb k a) (h a))
 
 -- two lists that join the same nodes count the same joins
-pub joins-same : (n : ℕ) (es fs : List Edge) → Ends (λ a. a < n) es → Ends (λ a. a < n) fs → ((a b : ℕ) → Joined es a b → Joined fs a b) → ((a b : ℕ) → Joined fs a b → Joined es a b) → joins es ≡ joins fs
+pub joins-same : (n : ℕ) (es fs : List Edge) → Ends (λ a. a < n) es → Ends (λ a. a < n) fs → ((a b : ℕ) → Joined es a b → Joined fs a b)
+    → ((a b : ℕ) → Joined fs a b → Joined es a b) → joins es ≡ joins fs
 joins-same n es fs we wf f g =
     let a = groups-joins (λ r. true) n es we (all-live es) in
     let b = groups-joins (λ r. true) n fs wf (all-live fs) in

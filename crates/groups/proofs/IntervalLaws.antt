@@ -10,7 +10,8 @@ use lib.Dec.{leb, ltb}
 use Rattle.groups.specs.Groups.{count}
 
 -- f and h differ on the numbers from a to before b alone, which h keeps and f does not
-module _ (f h : ℕ → Bool) (a b : ℕ) (upto : a ≤ b) (off : (p : ℕ) → a ≤ p → p < b → f p ≡ false) (on : (p : ℕ) → a ≤ p → p < b → h p ≡ true) (same : (p : ℕ) → (p < a) ⊎ (b ≤ p) → h p ≡ f p) where
+module _ (f h : ℕ → Bool) (a b : ℕ) (upto : a ≤ b) (off : (p : ℕ) → a ≤ p → p < b → f p ≡ false) (on : (p : ℕ) → a ≤ p → p < b → h p ≡ true)
+    (same : (p : ℕ) → (p < a) ⊎ (b ≤ p) → h p ≡ f p) where
   count-upto : (n : ℕ) → count h n ≡ (min b n - min a n) + count f n
   unfolding count
   count-upto zero = omega arith

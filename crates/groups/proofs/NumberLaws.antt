@@ -50,7 +50,8 @@ module _ (live : ℕ → Bool) (es : List Edge) (live-ends : Ends (λ a. live a 
       go false s true k = absurd (omega (arith, number-less q p b a (ltb-true _ _ k)))
       go false s false k = omega (arith, ltb-false (rep es p) (rep es q) s, ltb-false (rep es q) (rep es p) k)
 
-  reached : (size k : ℕ) → (q : ℕ) × (q < size) × (begins q ≡ true) × (count begins (suc q) ≡ k) → (q : ℕ) × (q < size) × (number live es q ≡ k)
+  reached : (size k : ℕ) → (q : ℕ) × (q < size) × (begins q ≡ true) × (count begins (suc q) ≡ k)
+      → (q : ℕ) × (q < size) × (number live es q ≡ k)
   unfolding begins isRoot
   reached size k r =
       let a : live (r .0) ≡ true = and-left _ _ (r .2) in
@@ -62,8 +63,16 @@ module _ (live : ℕ → Bool) (es : List Edge) (live-ends : Ends (λ a. live a 
   unfolding groups begins isRoot
   number-right size = record {
     off = λ p h a. number-off p a;
-    on = λ p h a. rw (number-on p a) (omega (arith, count-on begins (rep es p) (rep-begins p a)), count-mono begins (suc (rep es p)) size (lt-of-le-of-lt (rep-le es p) h));
-    same = λ p q hp hq a b. (λ e. rep-right es p q .0 (number-inj p q a b e), λ h. number-on p a ∙ ap (λ (k : ℕ). count begins (suc k)) (linked-rep es h) ∙ sym (number-on q b));
+    on = λ p h a. rw (number-on p a) (
+      omega (arith, count-on begins (rep es p) (rep-begins p a)),
+      count-mono begins (suc (rep es p)) size
+          (lt-of-le-of-lt (rep-le es p) h),
+    );
+    same = λ p q hp hq a b. (
+      λ e. rep-right es p q .0 (number-inj p q a b e),
+      λ h. number-on p a ∙ ap (λ (k : ℕ). count begins (suc k))
+          (linked-rep es h) ∙ sym (number-on q b),
+    );
     order = λ p q hp hq f g h. number-less p q (f .is-live) (g .is-live) (rw (first-rep p f, first-rep q g) h);
     used = λ k h l. reached size k (count-reach begins size k h l);
   }
@@ -91,7 +100,8 @@ module _ (live : ℕ → Bool) (es : List Edge) (live-ends : Ends (λ a. live a 
         go false t false v =
             let le = ltb-false (rep es q) (rep es p) t in
             let ne = eqb-false (rep es p) (rep es q) v in
-            let o = N .order (rep es p) (rep es q) (lt-of-le-of-lt (rep-le es p) hp) (lt-of-le-of-lt (rep-le es q) hq) (rep-first p a) (rep-first q b) (omega arith) in
+            let o = N .order (rep es p) (rep es q) (lt-of-le-of-lt (rep-le es p) hp) (lt-of-le-of-lt (rep-le es q) hq) (rep-first p a)
+            (rep-first q b) (omega arith) in
             absurd (omega (arith, numbered-rep p hp a, numbered-rep q hq b))
 
     -- every smaller number comes before
@@ -122,7 +132,8 @@ module _ (live : ℕ → Bool) (es : List Edge) (live-ends : Ends (λ a. live a 
       where
         go : (t : Bool) → live p ≡ t → ((q : ℕ) → q < p → ν q ≡ μ q) → ν p ≡ μ p
         go false e below = N .off p h e ∙ sym (M .off p h e)
-        go true e below = let l = not-less size n m ν μ N M p h e below in let g = not-less size m n μ ν M N p h e (λ q k. sym (below q k)) in omega arith
+        go true e below =
+            let l = not-less size n m ν μ N M p h e below in let g = not-less size m n μ ν M N p h e (λ q k. sym (below q k)) in omega arith
 
     -- the numbers of the groups are the only ones, and so is their count
     pub number-unique : (p : ℕ) → p < size → ν p ≡ μ p
@@ -132,7 +143,10 @@ module _ (live : ℕ → Bool) (es : List Edge) (live-ends : Ends (λ a. live a 
     count-at-most = go (ltb 0 n) refl
       where
         go : (t : Bool) → ltb 0 n ≡ t → n ≤ m
-        go true t = let l = ltb-true 0 n t in let u = N .used n l (le-refl n) in let c = count-below size n m ν μ N M (u .0) (u .1) (omega arith) (number-unique (u .0) (u .1)) in omega arith
+        go true t =
+            let l = ltb-true 0 n t in
+            let u = N .used n l (le-refl n) in
+            let c = count-below size n m ν μ N M (u .0) (u .1) (omega arith) (number-unique (u .0) (u .1)) in omega arith
         go false t = let l = ltb-false 0 n t in omega arith
 
   pub count-unique : (size n m : ℕ) (ν μ : ℕ → ℕ) → Numbered live (Joined es) size n ν → Numbered live (Joined es) size m μ → n ≡ m
@@ -153,7 +167,8 @@ module _ {R S : ℕ → ℕ → Type 0} (f : (a b : ℕ) → Chain R a b → Cha
   }
 
 -- a numbering is known by its numbers below size
-pub numbered-same : {live : ℕ → Bool} {R : ℕ → ℕ → Type 0} {n m : ℕ} (ν μ : ℕ → ℕ) → ((p : ℕ) → p < n → ν p ≡ μ p) → Numbered live R n m ν → Numbered live R n m μ
+pub numbered-same : {live : ℕ → Bool} {R : ℕ → ℕ → Type 0} {n m : ℕ} (ν μ : ℕ → ℕ) → ((p : ℕ) → p < n → ν p ≡ μ p) → Numbered live R n m ν
+    → Numbered live R n m μ
 numbered-same ν μ e N =
     record {
       off = λ p h a. sym (e p h) ∙ N .off p h a;

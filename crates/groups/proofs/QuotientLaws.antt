@@ -24,7 +24,8 @@ pub record Onto (live : ℕ → Bool) (R : ℕ → ℕ → Type 0) (size : ℕ) 
   pub lift : (r s : ℕ) → Q r s → Chain R (start r) (start s)
   pub inside : (r s : ℕ) → Q r s → s < m
 
-module _ {live : ℕ → Bool} {R : ℕ → ℕ → Type 0} {size : ℕ} {Q : ℕ → ℕ → Type 0} {m : ℕ} {run start : ℕ → ℕ} (O : Onto live R size Q m run start) where
+module _ {live : ℕ → Bool} {R : ℕ → ℕ → Type 0} {size : ℕ} {Q : ℕ → ℕ → Type 0} {m : ℕ} {run start : ℕ → ℕ}
+    (O : Onto live R size Q m run start) where
   stays : {r s : ℕ} → Chain Q r s → r < m → s < m
   stays one h = h
   stays (more q k) h = stays k (O .inside _ _ q)
@@ -50,16 +51,32 @@ module _ {live : ℕ → Bool} {R : ℕ → ℕ → Type 0} {size : ℕ} {Q : �
       go false t false u =
           let a = ltb-false (run p) (run q) t in
           let b = eqb-false (run p) (run q) u in
-          absurd (omega (arith, first-start p hp f, first-start q hq g, O .start-mono (run q) (run p) (omega arith) (O .run-below p hp (f .is-live))))
+          absurd (omega (
+            arith,
+            first-start p hp f,
+            first-start q hq g,
+            O .start-mono (run q) (run p) (omega arith) (O .run-below p hp (f .is-live)),
+          ))
 
   pub by-runs : (n : ℕ) (ν : ℕ → ℕ) → Numbered (λ r. true) Q m n ν → Numbered live R size n (λ p. cond (live p) (ν (run p)) 0)
   by-runs n ν N = record {
     off = λ p h a. rw a;
     on = λ p h a. rw a (N .on (run p) (O .run-below p h a) refl);
     same = λ p q hp hq a b. rw (a, b) (
-      λ e. chain-trans (O .start-chain p hp a) (chain-trans (chain-bind start (O .lift) (N .same (run p) (run q) (O .run-below p hp a) (O .run-below q hq b) refl refl .0 e)) (chain-sym (O .flip) (O .start-chain q hq b))),
+      λ e. chain-trans (O .start-chain p hp a) (chain-trans
+          (chain-bind start (O .lift) (N .same (run p) (run q) (O .run-below p hp a) (O .run-below q hq b) refl refl .0 e))
+          (chain-sym (O .flip) (O .start-chain q hq b))),
       λ c. N .same (run p) (run q) (O .run-below p hp a) (O .run-below q hq b) refl refl .1 (chain-bind run (O .down) c),
     );
-    order = λ p q hp hq f g l. rw (f .is-live, g .is-live) (N .order (run p) (run q) (O .run-below p hp (f .is-live)) (O .run-below q hq (g .is-live)) (run-first p hp f) (run-first q hq g) (run-less p q hp hq f g l));
-    used = λ k h l. let u = N .used k h l in (start (u .0), O .start-below (u .0) (u .1), rw (O .start-live (u .0) (u .1), O .run-start (u .0) (u .1)) (u .2));
+    order = λ p q hp hq f g l. rw (f .is-live, g .is-live)
+        (N .order (run p) (run q) (O .run-below p hp (f .is-live)) (O .run-below q hq (g .is-live)) (run-first p hp f) (run-first q hq g)
+        (run-less p q hp hq f g l));
+    used = λ k h l. let u = N .used k h l in (
+      start (u .0),
+      O .start-below (u .0) (u .1),
+      rw (
+        O .start-live (u .0) (u .1),
+        O .run-start (u .0) (u .1),
+      ) (u .2),
+    );
   }

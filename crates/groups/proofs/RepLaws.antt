@@ -72,7 +72,8 @@ unfolding rep
 joined-rep [] a b m = absurd (List·Memᴰ·not-nil m)
 joined-rep (e ∷ es) a b m = go (joined-rep es a b) (List·Memᴰ·cases-cons m)
   where
-    go : (List·Memᴰ (record { from = a; to = b }) es → rep es a ≡ rep es b) → (record { from = a; to = b } ≡ e) ⊎ List·Memᴰ (record { from = a; to = b }) es → rep (e ∷ es) a ≡ rep (e ∷ es) b
+    go : (List·Memᴰ (record { from = a; to = b }) es → rep es a ≡ rep es b)
+        → (record { from = a; to = b } ≡ e) ⊎ List·Memᴰ (record { from = a; to = b }) es → rep (e ∷ es) a ≡ rep (e ∷ es) b
     go below (inl q) = subst (λ (k : Edge). rep (k ∷ es) a ≡ rep (k ∷ es) b) q (merge-ends (rep es a) (rep es b))
     go below (inr k) = ap (merge (rep es (e .from)) (rep es (e .to))) (below k)
 
@@ -98,15 +99,23 @@ module _ (e : Edge) (es : List Edge) (a x y z : ℕ) (hx : Linked es (e .from) x
   merge-linked = go (merged x y z) (leb x y) refl
     where
       go : Merged x y z → (b : Bool) → leb x y ≡ b → Linked (e ∷ es) a (merge x y z)
-      go (inl h) true t = let l = leb-true x y t in let zy : z ≡ y = omega arith in let mx : x ≡ merge x y z = omega arith in chain-trans (up hz) (chain-trans (chain-refl zy) (chain-trans (linked-sym (e ∷ es) across) (chain-refl mx)))
-      go (inl h) false t = let l = leb-false x y t in let zx : z ≡ x = omega arith in let my : y ≡ merge x y z = omega arith in chain-trans (up hz) (chain-trans (chain-refl zx) (chain-trans across (chain-refl my)))
+      go (inl h) true t =
+          let l = leb-true x y t in
+          let zy : z ≡ y = omega arith in
+          let mx : x ≡ merge x y z = omega arith in
+          chain-trans (up hz) (chain-trans (chain-refl zy) (chain-trans (linked-sym (e ∷ es) across) (chain-refl mx)))
+      go (inl h) false t =
+          let l = leb-false x y t in
+          let zx : z ≡ x = omega arith in
+          let my : y ≡ merge x y z = omega arith in chain-trans (up hz) (chain-trans (chain-refl zx) (chain-trans across (chain-refl my)))
       go (inr h) b t = chain-trans (up hz) (chain-refl (sym (h .1)))
 
 -- a node is joined to its representative
 pub rep-linked : (es : List Edge) (a : ℕ) → Linked es a (rep es a)
 unfolding rep
 rep-linked [] a = one
-rep-linked (e ∷ es) a = merge-linked e es a (rep es (e .from)) (rep es (e .to)) (rep es a) (rep-linked es (e .from)) (rep-linked es (e .to)) (rep-linked es a)
+rep-linked (e ∷ es) a =
+    merge-linked e es a (rep es (e .from)) (rep es (e .to)) (rep es a) (rep-linked es (e .from)) (rep-linked es (e .to)) (rep-linked es a)
 
 -- one representative exactly when linked
 pub rep-right : (es : List Edge) (a b : ℕ) → (rep es a ≡ rep es b) ↔ Linked es a b
@@ -120,7 +129,8 @@ pub rep-least : (es : List Edge) {a b : ℕ} → Linked es a b → rep es a ≤ 
 rep-least es {a} {b} h = subst (λ (k : ℕ). k ≤ b) (sym (linked-rep es h)) (rep-le es b)
 
 -- two lists that join the same nodes give the same representatives: neither the order of the edges nor a repeat matters
-pub rep-same : (es fs : List Edge) → ((a b : ℕ) → Joined es a b → Joined fs a b) → ((a b : ℕ) → Joined fs a b → Joined es a b) → (a : ℕ) → rep es a ≡ rep fs a
+pub rep-same : (es fs : List Edge) → ((a b : ℕ) → Joined es a b → Joined fs a b) → ((a b : ℕ) → Joined fs a b → Joined es a b) → (a : ℕ)
+    → rep es a ≡ rep fs a
 rep-same es fs f g a = le-antisymm (rep-least es (chain-map g (rep-linked fs a))) (rep-least fs (chain-map f (rep-linked es a)))
 
 -- an edge whose ends have one representative changes nothing

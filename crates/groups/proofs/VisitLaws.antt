@@ -3,7 +3,8 @@
 use mathlib.Core.Path.{_≡_, refl}
 use mathlib.Core.Logic.{_⊎_, inl, inr}
 use mathlib.Core.Bool.{cond}
-use mathlib.Core.List.{List, [], _∷_, _++_, List·Memᴰ, List·Memᴰ·head, List·Memᴰ·tail, List·Memᴰ·not-nil, List·Memᴰ·cases-cons, List·Memᴰ·append-cases, Memᴰ·append-left, Memᴰ·append-right}
+use mathlib.Core.List.{List, [], _∷_, _++_, List·Memᴰ, List·Memᴰ·head, List·Memᴰ·tail, List·Memᴰ·not-nil, List·Memᴰ·cases-cons}
+use mathlib.Core.List.{List·Memᴰ·append-cases, Memᴰ·append-left, Memᴰ·append-right}
 use Prim.Native.Nat.{ℕ, _+_}
 use native.Mathlib.Omega.{arith}
 use lib.Dec.{eqb}
@@ -72,7 +73,8 @@ unfolding visit
 rep-over [] old oth h a = h a
 rep-over (e ∷ es) old oth h a = rep-over es (e ∷ old) (e ∷ oth) (λ b. unfold rep in rw (h (e .from), h (e .to), h b)) a
 
-pub joins-over : (es old oth : List Edge) → ((a : ℕ) → rep old a ≡ rep oth a) → joins (visit es old) + joins oth ≡ joins (visit es oth) + joins old
+pub joins-over : (es old oth : List Edge) → ((a : ℕ) → rep old a ≡ rep oth a)
+    → joins (visit es old) + joins oth ≡ joins (visit es oth) + joins old
 unfolding visit
 joins-over [] old oth h = omega arith
 joins-over (e ∷ es) old oth h = go (joins-over es (e ∷ old) (e ∷ oth) (λ b. unfold rep in rw (h (e .from), h (e .to), h b)))
@@ -80,8 +82,13 @@ joins-over (e ∷ es) old oth h = go (joins-over es (e ∷ old) (e ∷ oth) (λ 
     same : _≡_ {A = ℕ} (cond (eqb (rep old (e .from)) (rep old (e .to))) 0 1) (cond (eqb (rep oth (e .from)) (rep oth (e .to))) 0 1)
     same = rw (h (e .from), h (e .to))
 
-    go : joins (visit es (e ∷ old)) + joins (e ∷ oth) ≡ joins (visit es (e ∷ oth)) + joins (e ∷ old) → joins (visit es (e ∷ old)) + joins oth ≡ joins (visit es (e ∷ oth)) + joins old
-    go i = let k : joins (visit es (e ∷ old)) + (cond (eqb (rep oth (e .from)) (rep oth (e .to))) 0 1 + joins oth) ≡ joins (visit es (e ∷ oth)) + (cond (eqb (rep old (e .from)) (rep old (e .to))) 0 1 + joins old) = (unfold joins in i) in omega (arith, same)
+    go : joins (visit es (e ∷ old)) + joins (e ∷ oth) ≡ joins (visit es (e ∷ oth)) + joins (e ∷ old)
+        → joins (visit es (e ∷ old)) + joins oth ≡ joins (visit es (e ∷ oth)) + joins old
+    go i =
+        let k : joins (visit es (e ∷ old)) + (cond (eqb (rep oth (e .from)) (rep oth (e .to))) 0 1 + joins oth)
+        ≡ joins (visit es (e ∷ oth)) + (cond (eqb (rep old (e .from)) (rep old (e .to))) 0 1 + joins old) =
+        (unfold joins in i) in
+        omega (arith, same)
 
 pub ends-visit : (P : ℕ → Type 0) (es old : List Edge) → Ends P es → Ends P old → Ends P (visit es old)
 unfolding visit

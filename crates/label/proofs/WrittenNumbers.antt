@@ -20,7 +20,8 @@ use Rattle.frame.proofs.ListLaws.{listed-at, listed-length}
 use Rattle.forest.specs.Forest.{numberIn}
 use Rattle.geo.specs.declared.Geo.{Geo}
 use Rattle.geo.specs.Geometry.{GeoOf}
-use Rattle.write.specs.Writes.{NamesReady, named, LinesHeld, WriteReady, outputAt, AtCell, LinesWritten}
+use Rattle.names.specs.Names.{NamesReady, named}
+use Rattle.write.specs.Writes.{LinesHeld, WriteReady, outputAt, AtCell, LinesWritten}
 use Rattle.label.specs.declared.Session.{Session}
 use Rattle.label.specs.Record.{shapeOf, structureOf, linesOf}
 use Rattle.label.specs.Sound.{Sound}

@@ -33,7 +33,8 @@ module _ {early : ℕ} {Stands : Type 0} {Made : Answer → Type 0} {answer : Li
         ends = ends-refused early answer e;
       }
 
-  call-made : {said : Answer} {answer′ : List ℕ} → early ≡ 0 → Made said → ReadEnd said answer number answer′ → Call early Stands Made answer number answer′
+  call-made : {said : Answer} {answer′ : List ℕ} → early ≡ 0 → Made said → ReadEnd said answer number answer′
+      → Call early Stands Made answer number answer′
   call-made {said} none made ends =
       record {
         said = said;
@@ -57,7 +58,8 @@ module _ (shape structure ws r : List ℕ) where
         record-is = record-stands 100 blank r (omega arith);
       }
 
-  pub open-made : {number n : ℕ} {s : Session} {ws′ r′ : List ℕ} → recordWords ≤ length r → OpenPromise shape structure ws n s ws′ → number ≡ n → r′ ≡ recordAfter n s r
+  pub open-made : {number n : ℕ} {s : Session} {ws′ r′ : List ℕ} → recordWords ≤ length r → OpenPromise shape structure ws n s ws′
+      → number ≡ n → r′ ≡ recordAfter n s r
       → OpenCall shape structure ws r number ws′ r′
   open-made {number} {n} {s} {ws′} {r′} h P e w =
       let none = long-record r h in
@@ -82,12 +84,22 @@ module _ {r ws answer : List ℕ} {number : ℕ} (e : number ≡ recordEarly r (
   sizes-early h = record { call = call-early e h (refl, refl) }
 
 -- `early` is what was looked for before the call
-module _ {s s′ : Session} {r ws ws′ answer answer′ : List ℕ} {early number : ℕ} {a : Answer} (l : early ≡ recordEarly r (length answer)) (none : early ≡ 0) (e : s ≡ recordOf r) where
-  pub feed-made : {k : ℕ} {cells : List Bool} {r′ : List ℕ} → FeedPromise s ws k cells a s′ ws′ → FeedEnd a s′ r answer number r′ answer′ → FeedCall r ws k cells answer number r′ ws′ answer′
+module _ {s s′ : Session} {r ws ws′ answer answer′ : List ℕ} {early number : ℕ} {a : Answer} (l : early ≡ recordEarly r (length answer))
+    (none : early ≡ 0) (e : s ≡ recordOf r) where
+  pub feed-made : {k : ℕ} {cells : List Bool} {r′ : List ℕ} → FeedPromise s ws k cells a s′ ws′ → FeedEnd a s′ r answer number r′ answer′
+      → FeedCall r ws k cells answer number r′ ws′ answer′
   feed-made {k} {cells} P E =
-      record { call = call-made (sym l ∙ none) (record { session = s′; promise = subst (λ (x : Session). FeedPromise x ws k cells a s′ ws′) e P; record-is = E .record-is }) (E .ends) }
+      record {
+        call = call-made (sym l ∙ none) (record {
+          session = s′;
+          promise = subst (λ (x : Session). FeedPromise x ws k cells a s′ ws′)
+              e P;
+          record-is = E .record-is;
+        }) (E .ends);
+      }
 
-  pub read-made : {kind : Number} {out out′ : List (Value kind)} → ReadPromise kind s ws out a s′ ws′ out′ → ReadEnd a answer number answer′ → ReadCall kind r ws out answer number ws′ out′ answer′
+  pub read-made : {kind : Number} {out out′ : List (Value kind)} → ReadPromise kind s ws out a s′ ws′ out′ → ReadEnd a answer number answer′
+      → ReadCall kind r ws out answer number ws′ out′ answer′
   read-made {kind} {out} {out′} P E =
       record {
         call = call-made (sym l ∙ none)
@@ -95,7 +107,8 @@ module _ {s s′ : Session} {r ws ws′ answer answer′ : List ℕ} {early numb
             (subst (λ (x : Session). ReadPromise kind x ws out a s′ ws′ out′) e P)) E;
       }
 
-  pub sizes-made : {out out′ : List ℕ} → SizesPromise s ws out a s′ ws′ out′ → ReadEnd a answer number answer′ → SizesCall r ws out answer number ws′ out′ answer′
+  pub sizes-made : {out out′ : List ℕ} → SizesPromise s ws out a s′ ws′ out′ → ReadEnd a answer number answer′
+      → SizesCall r ws out answer number ws′ out′ answer′
   sizes-made {out} {out′} P E =
       record {
         call = call-made (sym l ∙ none)
@@ -110,5 +123,6 @@ module _ {kind : Number} {shape structure ws : List ℕ} {cells : List Bool} {ou
   frame-early h = record { call = call-early (sym (frame-short (length answer) h)) (λ z. omega arith) (refl, refl) }
 
   pub frame-made : {number : ℕ} {ws′ : List ℕ} {out′ : List (Value kind)} {answer′ : List ℕ} {a : Answer}
-      → leastAnswer ≤ length answer → FramePromise kind shape structure ws cells out a ws′ out′ → ReadEnd a answer number answer′ → FrameCall kind shape structure ws cells out answer number ws′ out′ answer′
+      → leastAnswer ≤ length answer → FramePromise kind shape structure ws cells out a ws′ out′ → ReadEnd a answer number answer′
+      → FrameCall kind shape structure ws cells out answer number ws′ out′ answer′
   frame-made h P E = record { call = call-made (frame-long (length answer) h) P E }

@@ -28,7 +28,8 @@ pub record Next (s : Session) (r : List ℕ) : Type 0 where
   pub reads : recordOf r ≡ s
   pub ready : RecordReady r
 
-written-next : {s t : Session} (r : List ℕ) {r′ : List ℕ} (number : ℕ) → number ≡ 0 → recordWords ≤ length r → Formed t → s ≡ t → r′ ≡ recordAfter number s r → Next t r′
+written-next : {s t : Session} (r : List ℕ) {r′ : List ℕ} (number : ℕ) → number ≡ 0 → recordWords ≤ length r → Formed t → s ≡ t
+    → r′ ≡ recordAfter number s r → Next t r′
 written-next {s} {t} r {r′} number z long F e w =
     let W : r′ ≡ overlay (wordsOf t) r = w ∙ kept-new r (overlay (wordsOf s) r) number z ∙ ap (λ (x : Session). overlay (wordsOf x) r) e in
     subst (λ (x : List ℕ). Next t x) (sym W) (record { reads = written-read t F r long; ready = written-ready t F r long })
@@ -36,7 +37,8 @@ written-next {s} {t} r {r′} number z long F e w =
 -- ---- a feed
 
 -- a call that returned 0 was made, and its answer is no refusal
-module _ {early : ℕ} {Stands : Type 0} {Made : Answer → Type 0} {answer answer′ : List ℕ} (C : Call early Stands Made answer 0 answer′) where
+module _ {early : ℕ} {Stands : Type 0} {Made : Answer → Type 0} {answer answer′ : List ℕ}
+    (C : Call early Stands Made answer 0 answer′) where
   was-made : early ≡ 0
   was-made = go early refl
     where
@@ -52,7 +54,8 @@ formed-fed : (r ws : List ℕ) (k : ℕ) (cells : List Bool) → RecordReady r �
 unfolding feedRecord recordOf
 formed-fed r ws k cells R = record { shape = refl; structure = structure-ready r R .long; are-bytes = R .are-bytes }
 
-pub fed-next : {r ws : List ℕ} {k : ℕ} {cells : List Bool} {answer r′ ws′ answer′ : List ℕ} → FeedCall r ws k cells answer 0 r′ ws′ answer′ → Next (feedRecord (recordOf r) ws k cells) r′
+pub fed-next : {r ws : List ℕ} {k : ℕ} {cells : List Bool} {answer r′ ws′ answer′ : List ℕ} → FeedCall r ws k cells answer 0 r′ ws′ answer′
+    → Next (feedRecord (recordOf r) ws k cells) r′
 fed-next {r} {ws} {k} {cells} {answer} F =
     let C = F .call in
     let none = was-made C in
@@ -60,7 +63,8 @@ fed-next {r} {ws} {k} {cells} {answer} F =
     let M = C .made none in
     let z : returned (C .said) ≡ 0 = sym (C .ends .number-is) in
     let no = no-cause (feedCauseOf (recordOf r) ws k cells) (C .said) _ (M .promise .said) z in
-    written-next r (returned (C .said)) z (R .long) (formed-fed r ws k cells R) (M .promise .session ∙ kept-new (recordOf r) (feedRecord (recordOf r) ws k cells) _ no) (M .record-is)
+    written-next r (returned (C .said)) z (R .long) (formed-fed r ws k cells R)
+    (M .promise .session ∙ kept-new (recordOf r) (feedRecord (recordOf r) ws k cells) _ no) (M .record-is)
 
 -- ---- an opening, of a structure of bytes
 
@@ -72,7 +76,8 @@ bytes-zeros (suc n) = bytes-zeros n
 bytes-padded : (l : List ℕ) (n : ℕ) → bytes l ≡ true → bytes (l ++ replicate n 0) ≡ true
 unfolding bytes
 bytes-padded [] n e = bytes-zeros n
-bytes-padded (x ∷ l) n e = and-true (ltb x 256) (bytes (l ++ replicate n 0)) (and-left (ltb x 256) (bytes l) e) (bytes-padded l n (and-right (ltb x 256) (bytes l) e))
+bytes-padded (x ∷ l) n e = and-true (ltb x 256) (bytes (l ++ replicate n 0)) (and-left (ltb x 256) (bytes l) e)
+    (bytes-padded l n (and-right (ltb x 256) (bytes l) e))
 
 padded-long : (n : ℕ) (l : List ℕ) → length l ≤ n → length (padded n l) ≡ n
 unfolding padded
@@ -85,12 +90,18 @@ opened-long {r = r} O = go (ltb (length r) recordWords) refl
     go false e = ltb-false (length r) recordWords e
     go true e = let z = short-record r (ltb-true (length r) recordWords e) in absurd (omega (arith, O .not-made (omega arith)))
 
-pub open-next : {shape structure ws r ws′ r′ : List ℕ} → bytes structure ≡ true → OpenCall shape structure ws r 0 ws′ r′ → Next (openRecord shape structure) r′
+pub open-next : {shape structure ws r ws′ r′ : List ℕ} → bytes structure ≡ true → OpenCall shape structure ws r 0 ws′ r′
+    → Next (openRecord shape structure) r′
 unfolding padded
 open-next {shape} {structure} {ws} {r} b O =
     let long = opened-long O in
     let P = O .made (long-record r long) in
     let short = open-short shape structure ws (P .said) in
     written-next r 0 refl long
-    (record { shape = padded-long 4 shape (short .0); structure = padded-long 81 structure (short .1); are-bytes = bytes-padded structure (81 - length structure) b })
+    (record {
+      shape = padded-long 4 shape (short .0);
+      structure = padded-long 81 structure (short .1);
+      are-bytes = bytes-padded structure
+          (81 - length structure) b;
+    })
     (P .session ∙ kept-new blank (openRecord shape structure) _ (sym (P .said))) (O .record-is)

@@ -4,7 +4,8 @@ use mathlib.Core.Path.{_≡_, refl, sym, ap, ap₂, _∙_, subst}
 use mathlib.Core.Bool.{Bool, true, false, _&&_}
 use mathlib.Core.List.{List, [], _∷_, _++_, map}
 use Prim.Native.Nat.{ℕ, zero, suc, _+_, _-_, _*_, _/_, _%_, _≤_, _<_}
-use native.Mathlib.Nat.{mul-assoc, add-mul, mul-le-mul-left, mul-le-mul-right, div-lt-iff-lt-mul, div-eq-of-lt, mod-eq-of-lt, div-le-self, mod-le, mod-lt}
+use native.Mathlib.Nat.{mul-assoc, add-mul, mul-le-mul-left, mul-le-mul-right, div-lt-iff-lt-mul, div-eq-of-lt, mod-eq-of-lt, div-le-self}
+use native.Mathlib.Nat.{mod-le, mod-lt}
 use native.Mathlib.Omega.{arith}
 use lib.IntN.{ℤ, pos, natAbs}
 use lib.ListN.{length, getD, replicate}
@@ -40,9 +41,11 @@ module _ (d0 d1 d2 ℓ : ℕ) (h : ℓ < size (d0 ∷ d1 ∷ d2 ∷ [])) where
   pub three-coords : coords (d0 ∷ d1 ∷ d2 ∷ []) ℓ ≡ ℓ / d2 / d1 ∷ ℓ / d2 % d1 ∷ ℓ % d2 ∷ []
   unfolding leading width
   three-coords =
-      let two : coords (d0 ∷ d1 ∷ []) (ℓ / d2) ≡ coords (d0 ∷ []) (ℓ / d2 / d1) ++ ℓ / d2 % d1 ∷ [] = coords-line (d0 ∷ d1 ∷ []) (ℓ / d2) (omega arith) below-two in
+      let two : coords (d0 ∷ d1 ∷ []) (ℓ / d2) ≡ coords (d0 ∷ []) (ℓ / d2 / d1) ++ ℓ / d2 % d1 ∷ [] = coords-line (d0 ∷ d1 ∷ []) (ℓ / d2)
+      (omega arith) below-two in
       let one : coords (d0 ∷ []) (ℓ / d2 / d1) ≡ ℓ / d2 / d1 ∷ [] = (unfold coords size in (ap (λ (k : ℕ). k ∷ []) (omega arith))) in
-      coords-line (d0 ∷ d1 ∷ d2 ∷ []) ℓ (omega arith) h ∙ ap (λ (l : List ℕ). l ++ ℓ % d2 ∷ []) (two ∙ ap (λ (l : List ℕ). l ++ ℓ / d2 % d1 ∷ []) one)
+      coords-line (d0 ∷ d1 ∷ d2 ∷ []) ℓ (omega arith) h
+      ∙ ap (λ (l : List ℕ). l ++ ℓ % d2 ∷ []) (two ∙ ap (λ (l : List ℕ). l ++ ℓ / d2 % d1 ∷ []) one)
 
 one-le : (a b : ℕ) → 0 < a → 0 < b → 1 ≤ a * b
 one-le a b p q = let h = mul-le-mul-right b (let l : 1 ≤ a = p in l) in omega (arith, h)
@@ -61,7 +64,8 @@ module _ (dims : List ℕ) (ℓ : ℕ) (three : length dims ≡ 3) (h : ℓ < si
 
   pub middle-pos : 0 < getD dims 1 0
   unfolding leading width
-  middle-pos = factor-pos (size (d 0 ∷ [])) (d 1) (ℓ / d 2) (subst (λ (k : ℕ). ℓ / d 2 < k) (size-lines (d 0 ∷ d 1 ∷ [])) (below-two (d 0) (d 1) (d 2) ℓ below))
+  middle-pos = factor-pos (size (d 0 ∷ [])) (d 1) (ℓ / d 2)
+      (subst (λ (k : ℕ). ℓ / d 2 < k) (size-lines (d 0 ∷ d 1 ∷ [])) (below-two (d 0) (d 1) (d 2) ℓ below))
 
   first-low : ℓ / d 2 / d 1 < 4294967296
   first-low = omega (arith, h, s, div-le-self ℓ (d 2), div-le-self (ℓ / d 2) (d 1))
@@ -84,7 +88,10 @@ module _ (dims : List ℕ) (ℓ : ℕ) (three : length dims ≡ 3) (h : ℓ < si
   -- each is below its dimension, and so that dimension is one
   rows-below : ℓ / d 2 < d 0 * d 1
   unfolding leading width size
-  rows-below = let e = size-lines (d 0 ∷ d 1 ∷ []) in let f : d 0 * 1 ≡ d 0 = omega arith in subst (λ (k : ℕ). ℓ / d 2 < k) (e ∙ ap (λ (k : ℕ). k * d 1) f) (below-two (d 0) (d 1) (d 2) ℓ below)
+  rows-below =
+      let e = size-lines (d 0 ∷ d 1 ∷ []) in
+      let f : d 0 * 1 ≡ d 0 = omega arith in
+      subst (λ (k : ℕ). ℓ / d 2 < k) (e ∙ ap (λ (k : ℕ). k * d 1) f) (below-two (d 0) (d 1) (d 2) ℓ below)
 
   pub first-below : ℓ / d 2 / d 1 < d 0
   first-below = div-lt-iff-lt-mul middle-pos .1 rows-below
@@ -121,7 +128,8 @@ module _ (dims : List ℕ) (ℓ : ℕ) (three : length dims ≡ 3) (h : ℓ < si
 
   pub coords-right : toZ w64 (ℓ / d 2 / d 1) ∷ toZ w64 (ℓ / d 2 % d 1) ∷ toZ w64 (ℓ % d 2) ∷ [] ≡ signedCoords dims ℓ
   coords-right =
-      ap₂ (λ (x : ℤ) (l : List ℤ). x ∷ l) (small _ first-low) (ap₂ (λ (x : ℤ) (l : List ℤ). x ∷ l) (small _ middle-low) (ap (λ (x : ℤ). x ∷ []) (small _ last-low)))
+      ap₂ (λ (x : ℤ) (l : List ℤ). x ∷ l) (small _ first-low)
+      (ap₂ (λ (x : ℤ) (l : List ℤ). x ∷ l) (small _ middle-low) (ap (λ (x : ℤ). x ∷ []) (small _ last-low)))
       ∙ sym (ap (map pos) coords-are)
 
 -- ---- neighbours
@@ -170,7 +178,8 @@ nat-entry (a ∷ l) zero = refl
 nat-entry (a ∷ l) (suc i) = nat-entry l i
 
 -- the test by coordinates is the frame's, and so is the line
-module _ (dims : List ℕ) (c o : List ℤ) (three-dims : length dims ≡ 3) (three-o : length o ≡ 3) (ℓ : ℕ) (is-c : c ≡ signedCoords dims ℓ) where
+module _ (dims : List ℕ) (c o : List ℤ) (three-dims : length dims ≡ 3) (three-o : length o ≡ 3) (ℓ : ℕ)
+    (is-c : c ≡ signedCoords dims ℓ) where
   abbrev D : ℕ → ℕ
   D i = getD dims i 0
 
@@ -187,7 +196,9 @@ module _ (dims : List ℕ) (c o : List ℤ) (three-dims : length dims ≡ 3) (th
   digits-are = ap (map digit) (three-entries (pos 0) o three-o)
 
   place : (i : ℕ) → getD (coords (D 0 ∷ D 1 ∷ D 2 ∷ []) ℓ) i 0 ≡ X i
-  place i = ap (λ (l : List ℕ). getD (coords l ℓ) i 0) (sym (three-entries 0 dims three-dims)) ∙ sym (ap (λ (l : List ℤ). natAbs (getD l i (pos 0))) is-c ∙ nat-entry (coords dims ℓ) i)
+  place i =
+      ap (λ (l : List ℕ). getD (coords l ℓ) i 0) (sym (three-entries 0 dims three-dims))
+      ∙ sym (ap (λ (l : List ℤ). natAbs (getD l i (pos 0))) is-c ∙ nat-entry (coords dims ℓ) i)
 
   three-ways : {A : Type 0} (f : ℕ → ℕ → ℕ → A) → f (Y 0) (Y 1) (Y 2) ≡ f (X 0) (X 1) (X 2)
   three-ways f = rw (place 0, place 1, place 2)
@@ -204,11 +215,13 @@ module _ (dims : List ℕ) (c o : List ℤ) (three-dims : length dims ≡ 3) (th
       ∙ three-line (D 0) (D 1) (D 2) (O 0) (O 1) (O 2) ℓ
       ∙ three-ways (λ a b c. ((a + O 0 - 1) * D 1 + (b + O 1 - 1)) * D 2 + (c + O 2 - 1))
 
-  pub nbr-yes : (movesIn (X 0) (O 0) (D 0) && movesIn (X 1) (O 1) (D 1)) && movesIn (X 2) (O 2) (D 2) ≡ true → At (((X 0 + O 0 - 1) * D 1 + (X 1 + O 1 - 1)) * D 2 + (X 2 + O 2 - 1)) ≡ nbrOf dims (map digit o) ℓ
+  pub nbr-yes : (movesIn (X 0) (O 0) (D 0) && movesIn (X 1) (O 1) (D 1)) && movesIn (X 2) (O 2) (D 2) ≡ true
+      → At (((X 0 + O 0 - 1) * D 1 + (X 1 + O 1 - 1)) * D 2 + (X 2 + O 2 - 1)) ≡ nbrOf dims (map digit o) ℓ
   unfolding nbrOf
   nbr-yes e = rw (has-is ∙ e, line-is)
 
-  pub nbr-no : (movesIn (X 0) (O 0) (D 0) && movesIn (X 1) (O 1) (D 1)) && movesIn (X 2) (O 2) (D 2) ≡ false → Nothing ≡ nbrOf dims (map digit o) ℓ
+  pub nbr-no : (movesIn (X 0) (O 0) (D 0) && movesIn (X 1) (O 1) (D 1)) && movesIn (X 2) (O 2) (D 2) ≡ false
+      → Nothing ≡ nbrOf dims (map digit o) ℓ
   unfolding nbrOf
   nbr-no e = rw (has-is ∙ e)
 

@@ -48,7 +48,8 @@ module _ (g : Geo) (structure ws : List ℕ) (ℓ : ℕ) (R : LineReady g struct
 
   -- the pairs of line ℓ and line m, by that code
   abbrev with-line : (ℕ → ℕ) → (ℕ → Run) → ℕ → ℕ → List Edge
-  with-line S Q k m = pairs (λ r s. reaches (on structure (3 * k)) (on structure (3 * k + 1)) (on structure (3 * k + 2)) (Q s) (Q r)) (S ℓ) (S (suc ℓ) - S ℓ) (S m) (S (suc m) - S m)
+  with-line S Q k m = pairs (λ r s. reaches (on structure (3 * k)) (on structure (3 * k + 1)) (on structure (3 * k + 2)) (Q s) (Q r)) (S ℓ)
+      (S (suc ℓ) - S ℓ) (S m) (S (suc m) - S m)
 
   -- the touches by one code are these, or none
   by-cases : (P : List Edge → Type 0) (S : ℕ → ℕ) (Q : ℕ → Run) (k : ℕ) → P []
@@ -60,7 +61,8 @@ module _ (g : Geo) (structure ws : List ℕ) (ℓ : ℕ) (R : LineReady g struct
       m : ℕ
       m = nbrLine ds (offset (length ds) k) ℓ
 
-      go : (u : Bool) → used structure (length ds) k ≡ u → (t : Bool) → hasNbr ds (offset (length ds) k) ℓ ≡ t → P (cond (used structure (length ds) k && hasNbr ds (offset (length ds) k) ℓ) (with-line S Q k m) [])
+      go : (u : Bool) → used structure (length ds) k ≡ u → (t : Bool) → hasNbr ds (offset (length ds) k) ℓ ≡ t
+          → P (cond (used structure (length ds) k && hasNbr ds (offset (length ds) k) ℓ) (with-line S Q k m) [])
       go false eu t et = rw eu none
       go true eu false et = rw (eu, et) none
       go true eu true et = rw (eu, et) (some m (nbr-earlier ds structure ℓ k below eu et))
@@ -75,13 +77,16 @@ module _ (g : Geo) (structure ws : List ℕ) (ℓ : ℕ) (R : LineReady g struct
       pairs-ends _ _ _ _ _ N (omega arith) (omega arith))
 
   upto-ends : (k : ℕ) → Ends (λ r. r < N) (gather by 0 k)
-  upto-ends k = ends-all (λ r. r < N) (gather by 0 k) (λ e i. let f = gather-from by 0 k e i in mem-ends (λ r. r < N) (by (f .at)) (by-ends (f .at)) e (f .mem))
+  upto-ends k = ends-all (λ r. r < N) (gather by 0 k)
+      (λ e i. let f = gather-from by 0 k e i in mem-ends (λ r. r < N) (by (f .at)) (by-ends (f .at)) e (f .mem))
 
   -- ---- none, where the line has no run
 
   pub no-touches : lineStart ws ℓ ≡ lineStart ws (suc ℓ) → touchesIn g structure ws ℓ ≡ []
   unfolding touchesOf
-  no-touches e = gather-none by 0 (3 ^ length ds) (λ k l u. by-cases (λ es. es ≡ []) (lineStart ws) (storedRun L ws) k refl (λ m h. let z : lineStart ws (suc ℓ) - lineStart ws ℓ ≡ 0 = omega arith in rw z (unfold pairs gather in refl)))
+  no-touches e = gather-none by 0 (3 ^ length ds)
+      (λ k l u. by-cases (λ es. es ≡ []) (lineStart ws) (storedRun L ws) k refl
+      (λ m h. let z : lineStart ws (suc ℓ) - lineStart ws ℓ ≡ 0 = omega arith in rw z (unfold pairs gather in refl)))
 
   -- ---- by one code more
 
@@ -92,10 +97,12 @@ module _ (g : Geo) (structure ws : List ℕ) (ℓ : ℕ) (R : LineReady g struct
         (λ m h. in-start L ws now N (gather by 0 k) t E m (let w = R .lines .within in omega arith))
         (λ m r h lo hi. ap (λ (run : ℕ → Run). run r) (in-runs L ws now N (gather by 0 k) t E))
 
-    pub touches-more : (vs : List ℕ) (u : ℕ) → UnitedIn L now vs (runsTo now ℓ) (touchesByIn g structure now ℓ k) u → UnitedIn L ws vs (runsTo ws ℓ) (gather (touchesByIn g structure ws ℓ) 0 (k + 1)) (t + u)
+    pub touches-more : (vs : List ℕ) (u : ℕ) → UnitedIn L now vs (runsTo now ℓ) (touchesByIn g structure now ℓ k) u
+        → UnitedIn L ws vs (runsTo ws ℓ) (gather (touchesByIn g structure ws ℓ) 0 (k + 1)) (t + u)
     touches-more vs u F =
         subst (λ (es : List Edge). UnitedIn L ws vs N es (t + u)) (sym more)
-        (in-then L ws ℓ (R .lines) now (gather by 0 k) t E (upto-ends k) vs (by k) u (subst (λ (es : List Edge). UnitedIn L now vs (runsTo now ℓ) es u) same-by F))
+        (in-then L ws ℓ (R .lines) now (gather by 0 k) t E (upto-ends k) vs (by k) u
+        (subst (λ (es : List Edge). UnitedIn L now vs (runsTo now ℓ) es u) same-by F))
       where
         more : gather by 0 (k + 1) ≡ gather by 0 k ++ by k
         more = ap (gather by 0) (add-one k) ∙ gather-snoc by 0 k ∙ ap (λ (x : ℕ). gather by 0 k ++ by x) (zero-add k)
@@ -109,7 +116,8 @@ module _ (g : Geo) (structure ws : List ℕ) (ℓ : ℕ) (R : LineReady g struct
   unused : (k : ℕ) → 3 ^ n / 2 ≤ k → k < 3 ^ n → used structure (length ds) k ≡ false
   unfolding used
   unused k l u =
-      let e : backward (offset (length ds) k) ≡ false = ap (λ (x : ℕ). backward (offset x k)) (leading-length n (g .dims) L (R .leading) three) ∙ backward-below n k u ∙ le-ltb k (3 ^ n / 2) l in
+      let e : backward (offset (length ds) k) ≡ false = ap (λ (x : ℕ). backward (offset x k))
+      (leading-length n (g .dims) L (R .leading) three) ∙ backward-below n k u ∙ le-ltb k (3 ^ n / 2) l in
       rw e
 
   forward : (k : ℕ) → 3 ^ n / 2 ≤ k → k < 3 ^ n → by k ≡ []
@@ -124,5 +132,6 @@ module _ (g : Geo) (structure ws : List ℕ) (ℓ : ℕ) (R : LineReady g struct
       (ap (λ (x : ℕ). gather by 0 (3 ^ x)) (leading-length n (g .dims) L (R .leading) three)
       ∙ ap (gather by 0) e
       ∙ gather-split by 0 (3 ^ n / 2) (3 ^ n - 3 ^ n / 2)
-      ∙ ap (λ (l : List Edge). gather by 0 (3 ^ n / 2) ++ l) (gather-none by (0 + 3 ^ n / 2) (3 ^ n - 3 ^ n / 2) (λ k l u. forward k (omega arith) (omega arith)))
+      ∙ ap (λ (l : List Edge). gather by 0 (3 ^ n / 2) ++ l)
+      (gather-none by (0 + 3 ^ n / 2) (3 ^ n - 3 ^ n / 2) (λ k l u. forward k (omega arith) (omega arith)))
       ∙ append-nil (gather by 0 (3 ^ n / 2)))

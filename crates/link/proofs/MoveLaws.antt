@@ -34,7 +34,8 @@ ge-zero (negsuc n) e = absurd (false≢true (sym e))
 
 nat-move : (n : ℕ) (o : ℤ) → digit o ≤ 2 → ltZ (pos n +ℤ o) (pos 0) ≡ false → natAbs (pos n +ℤ o) ≡ n + digit o - 1
 nat-move n (pos b) k e = omega arith
-nat-move n (negsuc zero) k e = sub-cases (λ z. ltZ z (pos 0) ≡ false → natAbs z ≡ n + 0 - 1) n 1 (λ q r. absurd (false≢true (sym r))) (λ q r. omega arith) e
+nat-move n (negsuc zero) k e =
+    sub-cases (λ z. ltZ z (pos 0) ≡ false → natAbs z ≡ n + 0 - 1) n 1 (λ q r. absurd (false≢true (sym r))) (λ q r. omega arith) e
 nat-move n (negsuc (suc b)) k e = absurd (omega arith)
 
 -- ---- a coordinate c and an offset o
@@ -61,7 +62,8 @@ module _ (c o : ℤ) (is-c : c ≡ pos (natAbs c)) (low : natAbs c < 4294967296)
     move-nat = ap natAbs move-is ∙ nat-move x o is-o not-below
 
     pub move-cast : T (nonNeg (held (held c +ℤ held o))) × Fits w64 (natAbs (held (held c +ℤ held o)))
-    move-cast = (subst (λ (z : ℤ). T (nonNeg z)) (sym move-is) (ge-zero (pos x +ℤ o) not-below), record { fits = rw move-nat (omega arith) })
+    move-cast =
+        (subst (λ (z : ℤ). T (nonNeg z)) (sym move-is) (ge-zero (pos x +ℤ o) not-below), record { fits = rw move-nat (omega arith) })
 
 -- ---- the test
 
@@ -73,11 +75,14 @@ ltb-leb a d b e = ap (λ (x : ℕ). leb x d) e
 
 within-moves : (n d : ℕ) (o : ℤ) → digit o ≤ 2 → within (pos n +ℤ o) d ≡ movesIn n (digit o) d
 unfolding within
-within-moves n d (pos b) k = ap (λ (t : Bool). t && ltb (n + b) d) (le-leb 0 (n + b) (omega arith)) ∙ ltb-leb (n + b) d (n + suc b) (omega arith) ∙ sym (ap (λ (t : Bool). t && leb (n + suc b) d) (lt-ltb 0 (n + suc b) (omega arith)))
+within-moves n d (pos b) k =
+    ap (λ (t : Bool). t && ltb (n + b) d) (le-leb 0 (n + b) (omega arith)) ∙ ltb-leb (n + b) d (n + suc b) (omega arith)
+    ∙ sym (ap (λ (t : Bool). t && leb (n + suc b) d) (lt-ltb 0 (n + suc b) (omega arith)))
 within-moves n d (negsuc zero) k =
     sub-cases (λ z. leZ (pos 0) z && ltZ z (pos d) ≡ ltb 0 (n + 0) && leb (n + 0) d) n 1
     (λ q. sym (ap (λ (t : Bool). t && leb (n + 0) d) (le-ltb 0 (n + 0) (omega arith))))
-    (λ q. ap (λ (t : Bool). t && ltb (n - 1) d) (le-leb 0 (n - 1) (omega arith)) ∙ ltb-leb (n - 1) d (n + 0) (omega arith) ∙ sym (ap (λ (t : Bool). t && leb (n + 0) d) (lt-ltb 0 (n + 0) (omega arith))))
+    (λ q. ap (λ (t : Bool). t && ltb (n - 1) d) (le-leb 0 (n - 1) (omega arith)) ∙ ltb-leb (n - 1) d (n + 0)
+    (omega arith) ∙ sym (ap (λ (t : Bool). t && leb (n + 0) d) (lt-ltb 0 (n + 0) (omega arith))))
 within-moves n d (negsuc (suc b)) k = absurd (omega arith)
 
 module _ (c o : ℤ) (d : ℕ) (S : Move c o d) where
@@ -104,7 +109,8 @@ module _ (c o : ℤ) (d : ℕ) (S : Move c o d) where
     unfolding movedTo
     inside-moved = rw (sym test-is ∙ inside) (move-nat c o (S .coordinate) low (S .offset) up)
 
-  pub outside-moved : leZ (pos 0) (held (held c +ℤ held o)) && ltZ (held (held c +ℤ held o)) (toZ w64 d) ≡ false → d ≡ movedTo (natAbs c) (digit o) d
+  pub outside-moved : leZ (pos 0) (held (held c +ℤ held o)) && ltZ (held (held c +ℤ held o)) (toZ w64 d) ≡ false
+      → d ≡ movedTo (natAbs c) (digit o) d
   unfolding movedTo
   outside-moved e = rw (sym test-is ∙ e)
 
@@ -116,5 +122,6 @@ module _ (c o : ℤ) (d : ℕ) (S : Move c o d) where
   moved-back = rw (coord-back c (S .coordinate) low, off-back o (S .offset))
 
 -- three parts of an offset, in an array
-pub offset-held : (a b c : ℤ) {x y z : ℕ} → digit a ≡ x → digit b ≡ y → digit c ≡ z → (x ≤ 2) × (y ≤ 2) × (z ≤ 2) → digit (held a) ∷ digit (held b) ∷ digit (held c) ∷ [] ≡ x ∷ y ∷ z ∷ []
+pub offset-held : (a b c : ℤ) {x y z : ℕ} → digit a ≡ x → digit b ≡ y → digit c ≡ z → (x ≤ 2) × (y ≤ 2) × (z ≤ 2)
+    → digit (held a) ∷ digit (held b) ∷ digit (held c) ∷ [] ≡ x ∷ y ∷ z ∷ []
 offset-held a b c p q r low = rw (off-back a (rw p (low .0)), off-back b (rw q (low .1)), off-back c (rw r (low .2)), p, q, r)

@@ -66,10 +66,14 @@ module _ (dims : List ℕ) (c o : List ℤ) (S : Moves dims c o) where
     e2 : v2 ≡ movedTo (natAbs (cAt 2)) (digit (oAt 2)) (d 2)
     e2 = m2 ∙ moved-back _ _ _ (S .third)
 
-    tests-are : (ltb v0 (d 0) && ltb v1 (d 1)) && ltb v2 (d 2) ≡ (movesIn (natAbs (cAt 0)) (digit (oAt 0)) (d 0) && movesIn (natAbs (cAt 1)) (digit (oAt 1)) (d 1)) && movesIn (natAbs (cAt 2)) (digit (oAt 2)) (d 2)
-    tests-are = ap₂ (λ (a : Bool) (b : Bool). a && b) (ap₂ (λ (a : Bool) (b : Bool). a && b) (test-moves _ _ _ v0 e0) (test-moves _ _ _ v1 e1)) (test-moves _ _ _ v2 e2)
+    tests-are : (ltb v0 (d 0) && ltb v1 (d 1)) && ltb v2 (d 2)
+        ≡ (movesIn (natAbs (cAt 0)) (digit (oAt 0)) (d 0) && movesIn (natAbs (cAt 1)) (digit (oAt 1)) (d 1)) && movesIn (natAbs (cAt 2))
+        (digit (oAt 2)) (d 2)
+    tests-are = ap₂ (λ (a : Bool) (b : Bool). a && b)
+        (ap₂ (λ (a : Bool) (b : Bool). a && b) (test-moves _ _ _ v0 e0) (test-moves _ _ _ v1 e1)) (test-moves _ _ _ v2 e2)
 
-    pub outside : length o ≡ 3 → (ltb v0 (d 0) && ltb v1 (d 1)) && ltb v2 (d 2) ≡ false → (ℓ : ℕ) → c ≡ signedCoords dims ℓ → Nothing ≡ nbrOf dims (map digit o) ℓ
+    pub outside : length o ≡ 3 → (ltb v0 (d 0) && ltb v1 (d 1)) && ltb v2 (d 2) ≡ false → (ℓ : ℕ) → c ≡ signedCoords dims ℓ
+        → Nothing ≡ nbrOf dims (map digit o) ℓ
     outside three-o e ℓ is-c = nbr-no dims c o three-dims three-o ℓ is-c (sym tests-are ∙ e)
 
     module _ (all : (ltb v0 (d 0) && ltb v1 (d 1)) && ltb v2 (d 2) ≡ true) where
@@ -109,4 +113,5 @@ module _ (dims : List ℕ) (c o : List ℤ) (S : Moves dims c o) where
       fits-first = record { fits = omega (arith, below, row-below (d 0) (d 1) (d 2) v0 v1 v2 h0 h1 h2) }
 
       pub at-line : length o ≡ 3 → (ℓ : ℕ) → c ≡ signedCoords dims ℓ → At ((v0 * d 1 + v1) * d 2 + v2) ≡ nbrOf dims (map digit o) ℓ
-      at-line three-o ℓ is-c = rw (at-moves _ _ _ v0 e0 in0, at-moves _ _ _ v1 e1 in1, at-moves _ _ _ v2 e2 in2) (nbr-yes dims c o three-dims three-o ℓ is-c (sym tests-are ∙ all))
+      at-line three-o ℓ is-c = rw (at-moves _ _ _ v0 e0 in0, at-moves _ _ _ v1 e1 in1, at-moves _ _ _ v2 e2 in2)
+          (nbr-yes dims c o three-dims three-o ℓ is-c (sym tests-are ∙ all))

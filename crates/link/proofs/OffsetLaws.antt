@@ -65,7 +65,8 @@ pub part-fits : (t : ℕ) → t ≤ 2 → SFits w64 (toZ w64 t -ℤ pos 1)
 part-fits t h = sum-fits t (negsuc 0) (omega arith) (omega arith)
 
 pub part-digit : (t : ℕ) → t ≤ 2 → digit (toZ w64 (ofZ w64 (toZ w64 t -ℤ pos 1))) ≡ t
-part-digit t h = ap digit (shifted t (negsuc 0) (omega arith) (omega arith)) ∙ sub-cases (λ z. digit z ≡ t) t 1 (λ q. go t q) (λ q. omega arith)
+part-digit t h =
+    ap digit (shifted t (negsuc 0) (omega arith) (omega arith)) ∙ sub-cases (λ z. digit z ≡ t) t 1 (λ q. go t q) (λ q. omega arith)
   where
     go : (t : ℕ) → t < 1 → digit (negsuc (1 - suc t)) ≡ t
     go zero q = refl

@@ -46,15 +46,26 @@ module _ (L : ℕ) (ws : List ℕ) where
 
     -- the line starts rise
     pub starts-rise : (m k : ℕ) → m ≤ k → k ≤ suc ℓ → lineStart ws m ≤ lineStart ws k
-    starts-rise m zero a b = let e : m ≡ 0 = omega arith in subst (λ (x : ℕ). lineStart ws x ≤ lineStart ws 0) (sym e) (le-refl (lineStart ws 0))
+    starts-rise m zero a b =
+        let e : m ≡ 0 = omega arith in subst (λ (x : ℕ). lineStart ws x ≤ lineStart ws 0) (sym e) (le-refl (lineStart ws 0))
     starts-rise m (suc k) a b = go (ltb k m) refl (starts-rise m k)
       where
         go : (t : Bool) → ltb k m ≡ t → (m ≤ k → k ≤ suc ℓ → lineStart ws m ≤ lineStart ws k) → lineStart ws m ≤ lineStart ws (suc k)
-        go true t below = let l = ltb-true k m t in let e : m ≡ suc k = omega arith in subst (λ (x : ℕ). lineStart ws m ≤ lineStart ws x) e (le-refl (lineStart ws m))
-        go false t below = let l = ltb-false k m t in let i = below l (omega arith) in let u = R .sorted k (omega arith) .upto in omega arith
+        go true t below =
+            let l = ltb-true k m t in
+            let e : m ≡ suc k = omega arith in subst (λ (x : ℕ). lineStart ws m ≤ lineStart ws x) e (le-refl (lineStart ws m))
+        go false t below =
+            let l = ltb-false k m t in let i = below l (omega arith) in let u = R .sorted k (omega arith) .upto in omega arith
 
     -- two of them, to be linked
-    pub part-lines : (m : ℕ) → m < ℓ → TwoLines (drop (L + 1) ws) (record { ca = lineStart ws ℓ; cb = lineStart ws (suc ℓ); na = lineStart ws m; nb = lineStart ws (suc m) })
+    pub part-lines : (m : ℕ) → m < ℓ
+        → TwoLines (drop (L + 1) ws) (record {
+          ca = lineStart ws ℓ;
+          cb = lineStart ws (suc ℓ);
+          na = lineStart ws m;
+          nb = lineStart ws
+              (suc m);
+        })
     part-lines m h = record {
       parents = part-ready;
       current = subst (λ (f : ℕ → Run). InOrder f (lineStart ws ℓ) (lineStart ws (suc ℓ))) (sym part-runs) (R .sorted ℓ (le-refl ℓ));
@@ -84,7 +95,9 @@ module _ (L : ℕ) (ws : List ℕ) (ℓ m : ℕ) (R : LinesReady L ws ℓ) (h : 
   pub lent-lines : TwoLines (midOf (L + 1) (length ws - (L + 1)) ws) at
   lent-lines = rw (tail-mid (L + 1) ws, add-one ℓ, add-one m) (part-lines L ws ℓ R m h)
 
-  pub lent-back : (by : Nbr) (p : List ℕ) (t : ℕ) → United (midOf (L + 1) (length ws - (L + 1)) ws) p (getD ws (ℓ + 1) 0) (linkPairs by (runIn (midOf (L + 1) (length ws - (L + 1)) ws)) at) t
+  pub lent-back : (by : Nbr) (p : List ℕ) (t : ℕ)
+      → United (midOf (L + 1) (length ws - (L + 1)) ws) p (getD ws (ℓ + 1) 0)
+      (linkPairs by (runIn (midOf (L + 1) (length ws - (L + 1)) ws)) at) t
       → UnitedIn L ws (putMid (L + 1) (length ws - (L + 1)) ws p) (runsTo ws ℓ) (pairsOf L ws ℓ m by) t
   lent-back by p t U =
       subst (λ (vs : List ℕ). UnitedIn L ws vs (runsTo ws ℓ) (pairsOf L ws ℓ m by) t) (sym (tail-put (L + 1) ws p (omega (arith, R .room))))
@@ -112,7 +125,8 @@ module _ (L : ℕ) (ws ws′ : List ℕ) (n : ℕ) (es : List Edge) (t : ℕ) (E
   kept = E .runs .kept
 
   pub in-start : (ℓ : ℕ) → ℓ ≤ L → lineStart ws′ ℓ ≡ lineStart ws ℓ
-  in-start ℓ h = sym (getD-take (L + 1) ws′ ℓ 0 (omega arith)) ∙ ap (λ (l : List ℕ). getD l ℓ 0) (E .starts) ∙ getD-take (L + 1) ws ℓ 0 (omega arith)
+  in-start ℓ h =
+      sym (getD-take (L + 1) ws′ ℓ 0 (omega arith)) ∙ ap (λ (l : List ℕ). getD l ℓ 0) (E .starts) ∙ getD-take (L + 1) ws ℓ 0 (omega arith)
 
   pub in-others : (j : ℕ) → NoParent L n j → getD ws′ j 0 ≡ getD ws j 0
   in-others j h = go (ltb j (L + 1)) refl
@@ -122,25 +136,38 @@ module _ (L : ℕ) (ws ws′ : List ℕ) (n : ℕ) (es : List Edge) (t : ℕ) (E
       go false e =
           let l = ltb-false j (L + 1) e in
           let is-j : L + 1 + (j - (L + 1)) ≡ j = omega arith in
-          let k : getD (drop (L + 1) ws′) (j - (L + 1)) 0 ≡ getD (drop (L + 1) ws) (j - (L + 1)) 0 = kept .others (j - (L + 1)) (λ r b q. h r b (omega arith)) in
+          let k : getD (drop (L + 1) ws′) (j - (L + 1)) 0 ≡ getD (drop (L + 1) ws) (j - (L + 1)) 0 = kept .others (j - (L + 1))
+          (λ r b q. h r b (omega arith)) in
           subst (λ (x : ℕ). getD ws′ x 0 ≡ getD ws x 0) is-j (sym (part-word L ws′ (j - (L + 1))) ∙ k ∙ part-word L ws (j - (L + 1)))
 
   pub in-parents : (r : ℕ) → r < n → parentOf L ws′ r ≤ r
   in-parents r h = subst (λ (f : ℕ → ℕ). f r ≤ r) (part-parents L ws′) (kept .low r h)
 
   pub in-grouped : (r : ℕ) → r < n → rootOf (parentOf L ws′) r ≡ rep (visit es (grouping (parentOf L ws) n)) r
-  in-grouped r h = subst (λ (f : ℕ → ℕ). rootOf f r ≡ rep (visit es (grouping (parentOf L ws) n)) r) (part-parents L ws′) (subst (λ (f : ℕ → ℕ). rootOf (parentIn (drop (L + 1) ws′)) r ≡ rep (visit es (grouping f n)) r) (part-parents L ws) (E .runs .grouped r h))
+  in-grouped r h = subst (λ (f : ℕ → ℕ). rootOf f r ≡ rep (visit es (grouping (parentOf L ws) n)) r) (part-parents L ws′)
+      (subst (λ (f : ℕ → ℕ). rootOf (parentIn (drop (L + 1) ws′)) r ≡ rep (visit es (grouping f n)) r) (part-parents L ws)
+      (E .runs .grouped r h))
 
   pub in-counted : t + joins (grouping (parentOf L ws) n) ≡ joins (visit es (grouping (parentOf L ws) n))
   in-counted = subst (λ (f : ℕ → ℕ). t + joins (grouping f n) ≡ joins (visit es (grouping f n))) (part-parents L ws) (E .runs .counted)
 
   -- starts and ends stand
   pub in-runs : storedRun L ws′ ≡ storedRun L ws
-  in-runs = fun-ext (λ r. ap₂ (λ (s : ℕ) (e : ℕ). record { start = s; end = e }) (in-others (L + 1 + startAt r) (λ x h e. omega arith)) (in-others (L + 1 + endAt r) (λ x h e. omega arith)))
+  in-runs = fun-ext (λ r. ap₂ (λ (s : ℕ) (e : ℕ). record { start = s; end = e }) (in-others (L + 1 + startAt r) (λ x h e. omega arith))
+      (in-others (L + 1 + endAt r) (λ x h e. omega arith)))
 
   module _ (big : L + 1 ≤ length ws) where
     pub in-long : length ws′ ≡ length ws
-    in-long = omega (arith, big, ap length (E .starts), kept .long, length-take (L + 1) ws, length-take (L + 1) ws′, length-drop (L + 1) ws, length-drop (L + 1) ws′)
+    in-long = omega (
+      arith,
+      big,
+      ap length (E .starts),
+      kept .long,
+      length-take (L + 1) ws,
+      length-take (L + 1) ws′,
+      length-drop (L + 1) ws,
+      length-drop (L + 1) ws′,
+    )
 
 -- ---- one after another
 
@@ -157,11 +184,13 @@ module _ (L : ℕ) (ws : List ℕ) (ℓ : ℕ) (R : LinesReady L ws ℓ) where
     in-ready = record {
       within = R .within;
       room = rw (same-start (suc ℓ) (le-refl (suc ℓ)), in-long L ws ws′ (runsTo ws ℓ) es t E (omega (arith, R .room))) (R .room);
-      sorted = λ m h. rw (same-start m (omega arith), same-start (suc m) (omega arith), in-runs L ws ws′ (runsTo ws ℓ) es t E) (R .sorted m h);
+      sorted =
+          λ m h. rw (same-start m (omega arith), same-start (suc m) (omega arith), in-runs L ws ws′ (runsTo ws ℓ) es t E) (R .sorted m h);
       parents = λ r h. in-parents L ws ws′ (runsTo ws ℓ) es t E r (subst (λ (x : ℕ). r < x) (same-start (suc ℓ) (le-refl (suc ℓ))) h);
     }
 
-    pub in-then : Ends (λ r. r < runsTo ws ℓ) es → (vs : List ℕ) (fs : List Edge) (u : ℕ) → UnitedIn L ws′ vs (runsTo ws′ ℓ) fs u → UnitedIn L ws vs (runsTo ws ℓ) (es ++ fs) (t + u)
+    pub in-then : Ends (λ r. r < runsTo ws ℓ) es → (vs : List ℕ) (fs : List Edge) (u : ℕ) → UnitedIn L ws′ vs (runsTo ws′ ℓ) fs u
+        → UnitedIn L ws vs (runsTo ws ℓ) (es ++ fs) (t + u)
     in-then w vs fs u F = record {
       starts = F .starts ∙ E .starts;
       runs = united-then (drop (L + 1) ws) (runsTo ws ℓ) (part-ready L ws ℓ R) (drop (L + 1) ws′) es t w (E .runs) (drop (L + 1) vs) fs u

@@ -76,11 +76,15 @@ module _ (n : ℕ) (dims : List ℕ) (L : ℕ) (D : ThreeDims n dims L) (three :
 
     has-three : hasNbr dims (threeDigits n k) ℓ ≡ hasNbr ds (offset (length ds) k) ℓ
     unfolding threeDigits
-    has-three = ap (λ (l : List ℕ). hasNbr l (replicate (3 - n) 1 ++ offset n k) ℓ) dims-are ∙ has-ones (3 - n) ds (offset n k) ℓ below ∙ ap (λ (x : ℕ). hasNbr ds (offset x k) ℓ) (sym leading-length)
+    has-three =
+        ap (λ (l : List ℕ). hasNbr l (replicate (3 - n) 1 ++ offset n k) ℓ) dims-are ∙ has-ones (3 - n) ds (offset n k) ℓ below
+        ∙ ap (λ (x : ℕ). hasNbr ds (offset x k) ℓ) (sym leading-length)
 
     line-three : nbrLine dims (threeDigits n k) ℓ ≡ nbrLine ds (offset (length ds) k) ℓ
     unfolding threeDigits
-    line-three = ap (λ (l : List ℕ). nbrLine l (replicate (3 - n) 1 ++ offset n k) ℓ) dims-are ∙ line-ones (3 - n) ds (offset n k) ℓ below ∙ ap (λ (x : ℕ). nbrLine ds (offset x k) ℓ) (sym leading-length)
+    line-three =
+        ap (λ (l : List ℕ). nbrLine l (replicate (3 - n) 1 ++ offset n k) ℓ) dims-are ∙ line-ones (3 - n) ds (offset n k) ℓ below
+        ∙ ap (λ (x : ℕ). nbrLine ds (offset x k) ℓ) (sym leading-length)
 
     is-backward : backward (offset (length ds) k) ≡ true
     is-backward = ap (λ (x : ℕ). backward (offset x k)) leading-length ∙ backward-below n k code-fits ∙ lt-ltb k (3 ^ n / 2) low
@@ -103,7 +107,8 @@ module _ (n : ℕ) (dims : List ℕ) (L : ℕ) (D : ThreeDims n dims L) (three :
     unfolding touchesBy
     by-unused e = rw (used-is ∙ e)
 
-    pub by-none : (prev || adj) || next ≡ true → Nothing ≡ nbrOf dims (threeDigits n k) ℓ → touchesBy (leadingOf n dims) structure (lineStart ws) (storedRun L ws) ℓ k ≡ []
+    pub by-none : (prev || adj) || next ≡ true → Nothing ≡ nbrOf dims (threeDigits n k) ℓ
+        → touchesBy (leadingOf n dims) structure (lineStart ws) (storedRun L ws) ℓ k ≡ []
     unfolding touchesBy
     by-none e a = rw (used-is ∙ e, sym has-three ∙ none-has dims (threeDigits n k) ℓ a)
 
@@ -117,6 +122,7 @@ module _ (n : ℕ) (dims : List ℕ) (L : ℕ) (D : ThreeDims n dims L) (three :
       pub by-earlier : m < ℓ
       by-earlier = subst (λ (x : ℕ). x < ℓ) (sym line) (nbr-earlier ds structure ℓ k below (used-is ∙ e) has)
 
-      pub by-pairs : touchesBy (leadingOf n dims) structure (lineStart ws) (storedRun L ws) ℓ k ≡ pairsOf L ws ℓ m (record { prev = prev; adj = adj; next = next })
+      pub by-pairs : touchesBy (leadingOf n dims) structure (lineStart ws) (storedRun L ws) ℓ k
+          ≡ pairsOf L ws ℓ m (record { prev = prev; adj = adj; next = next })
       unfolding touchesBy
       by-pairs = rw (used-is ∙ e, has, ← line)

@@ -37,7 +37,8 @@ module _ (r : List ℕ) where
   unfolding recordEarly
   early-ready n e = go (ltb (length r) recordWords) (ltb n leastAnswer) (bytes (structureWords r)) refl refl e
     where
-      go : (a b t : Bool) → ltb (length r) recordWords ≡ a → bytes (structureWords r) ≡ t → _≡_ {A = ℕ} (cond (a || b) short (cond t 0 6)) 0 → RecordReady r
+      go : (a b t : Bool) → ltb (length r) recordWords ≡ a → bytes (structureWords r) ≡ t → _≡_ {A = ℕ} (cond (a || b) short (cond t 0 6)) 0
+          → RecordReady r
       go true b t ea et z = absurd (omega arith)
       go false true t ea et z = absurd (omega arith)
       go false false false ea et z = absurd (omega arith)

@@ -12,14 +12,16 @@ use Rattle.label.specs.declared.Session.{Session}
 use Rattle.record_c.specs.Records.{wordsOf}
 use Rattle.record_c.specs.Ends.{returned, answerWords, recordAfter, ReadEnd}
 
-pub ends-written : (said : Answer) {answer answer′ : List ℕ} {place : ℕ} → returned said ≡ 0 → Adds (answerWords said) answer 0 answer′ place → ReadEnd said answer 0 answer′
+pub ends-written : (said : Answer) {answer answer′ : List ℕ} {place : ℕ} → returned said ≡ 0
+    → Adds (answerWords said) answer 0 answer′ place → ReadEnd said answer 0 answer′
 ends-written said e A = record { number-is = sym e; answer-is = adds-first A .now-is }
 
 pub ends-refused : (c : ℕ) {number : ℕ} (answer : List ℕ) → number ≡ c → ReadEnd (refused c) answer number answer
 ends-refused c answer e = record { number-is = e; answer-is = sym (overlay-none answer) }
 
 -- the record, of a call that was accepted and of one that was not
-pub record-written : (number : ℕ) (s : Session) (r : List ℕ) {r′ : List ℕ} → number ≡ 0 → r′ ≡ overlay (wordsOf s) r → r′ ≡ recordAfter number s r
+pub record-written : (number : ℕ) (s : Session) (r : List ℕ) {r′ : List ℕ} → number ≡ 0 → r′ ≡ overlay (wordsOf s) r
+    → r′ ≡ recordAfter number s r
 record-written number s r e w = w ∙ sym (kept-new r (overlay (wordsOf s) r) number e)
 
 pub record-stands : (number : ℕ) (s : Session) (r : List ℕ) → 0 < number → r ≡ recordAfter number s r

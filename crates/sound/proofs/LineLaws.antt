@@ -30,8 +30,10 @@ byte-gap false = refl
 byte-gap true = refl
 
 -- one comparison of the length, less one and modulo 2^64, tells that
-pub one-comparison : (left : Bool) (s e d : ℕ) → s < 4294967296 → e < 4294967296 → d < 2 ^ 64 → (d + (s + 1)) % 2 ^ 64 ≡ e → leb (longestRun left) d ≡ noRun left s e
-one-comparison true s e d hs he hd w = bool-same (leb 4294967296 d) (leb e s) (λ t. le-leb e s (omega (arith, leb-true 4294967296 d t))) (λ t. le-leb 4294967296 d (omega (arith, leb-true e s t)))
+pub one-comparison : (left : Bool) (s e d : ℕ) → s < 4294967296 → e < 4294967296 → d < 2 ^ 64 → (d + (s + 1)) % 2 ^ 64 ≡ e
+    → leb (longestRun left) d ≡ noRun left s e
+one-comparison true s e d hs he hd w = bool-same (leb 4294967296 d) (leb e s) (λ t. le-leb e s (omega (arith, leb-true 4294967296 d t)))
+    (λ t. le-leb 4294967296 d (omega (arith, leb-true e s t)))
 one-comparison false s e d hs he hd w = go (eqb e (s + 1)) refl
   where
     go : (t : Bool) → eqb e (s + 1) ≡ t → leb 1 d ≡ not (eqb e (s + 1))
@@ -105,9 +107,14 @@ module _ (L w : ℕ) (left : Bool) (ws : List ℕ) where
   unfolding nonRoots own
   counts r low = go (ltb (parent r) r) refl
     where
-      go : (t : Bool) → ltb (parent r) r ≡ t → boolByte t + count (λ q. not (eqb (parent q) q)) r ≡ count (λ q. not (eqb (parent q) q)) (suc r)
-      go true t = let m = ltb-true (parent r) r t in omega (arith, count-on (λ q. not (eqb (parent q) q)) r (rw (ne-eqb (parent r) r (λ e. omega arith))))
-      go false t = let m = ltb-false (parent r) r t in omega (arith, count-off (λ q. not (eqb (parent q) q)) r (rw (eq-eqb (parent r) r (omega arith))))
+      go : (t : Bool) → ltb (parent r) r ≡ t
+          → boolByte t + count (λ q. not (eqb (parent q) q)) r ≡ count (λ q. not (eqb (parent q) q)) (suc r)
+      go true t =
+          let m = ltb-true (parent r) r t in
+          omega (arith, count-on (λ q. not (eqb (parent q) q)) r (rw (ne-eqb (parent r) r (λ e. omega arith))))
+      go false t =
+          let m = ltb-false (parent r) r t in
+          omega (arith, count-off (λ q. not (eqb (parent q) q)) r (rw (eq-eqb (parent r) r (omega arith))))
 
   -- with the gap as the pass has it
   module _ {gap : ℕ} (is-gap : gap ≡ gapOf left) where
@@ -139,7 +146,8 @@ module _ (L w : ℕ) (left : Bool) (ws : List ℕ) where
         ordered = λ q m n. near q m n (ℕ-discrete (suc q) r);
         single = λ e q m n. each (λ q. end q ≤ suc (start q)) (T .single e) (P .single e) q m n;
         parents = λ q m n. each (λ q. parent q ≤ q) (T .parents) (P .low) q m n;
-        below = λ q m n. each (λ q. end q + gapOf left ≤ end r + gap) (λ q m n. omega (arith, T .below q m n, P .apart, P .nonempty)) (omega arith) q m n;
+        below = λ q m n. each (λ q. end q + gapOf left ≤ end r + gap) (λ q m n. omega (arith, T .below q m n, P .apart, P .nonempty))
+            (omega arith) q m n;
         none = λ e. absurd (omega (arith, T .from));
         last = λ q m e. let f : r ≡ q = omega arith in ap (λ (x : ℕ). end x + gap) f ∙ ap (λ (x : ℕ). end q + x) is-gap;
         counted = rw (add-one r) (omega (arith, T .counted, counts r (P .low)));
@@ -174,7 +182,11 @@ module _ (L w : ℕ) (left : Bool) (ws : List ℕ) where
               omega (arith, T .last (r - 1) (omega (arith, T .from)) s)
 
           right : wrong r least ≡ false
-          right = simp (le-ltb (start r) least (apart (ℕ-discrete r a)), run-is left (start r) (end r) (S .nonempty r (T .from) l) (λ e. S .single e r (T .from) l), le-ltb r (parent r) (S .parents r (T .from) l)) refl
+          right = simp (
+            le-ltb (start r) least (apart (ℕ-discrete r a)),
+            run-is left (start r) (end r) (S .nonempty r (T .from) l) (λ e. S .single e r (T .from) l),
+            le-ltb r (parent r) (S .parents r (T .from) l),
+          ) refl
 
       -- after the last run, whose end is the largest
       pub runs-done : b ≤ r → least ≤ w + gap → RunsSound L w left a b ws × (k + nonRoots parent a ≡ nonRoots parent b)
@@ -195,4 +207,8 @@ module _ (L w : ℕ) (left : Bool) (ws : List ℕ) where
         where
           wide : Dec (r ≡ a) → ⊥
           wide (yes e) = omega (arith, T .none e)
-          wide (no e) = omega (arith, T .last (r - 1) (omega (arith, T .from)) (omega (arith, T .from)), S .inside (r - 1) (omega (arith, T .from)) (omega (arith, T .from, T .upto)))
+          wide (no e) = omega (
+            arith,
+            T .last (r - 1) (omega (arith, T .from)) (omega (arith, T .from)),
+            S .inside (r - 1) (omega (arith, T .from)) (omega (arith, T .from, T .upto)),
+          )

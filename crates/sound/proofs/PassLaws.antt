@@ -39,7 +39,8 @@ module _ (L w : ℕ) (left : Bool) (ws : List ℕ) where
 
   -- no start below an earlier one
   rising-to : {fed runs joins : ℕ} → Words fed runs joins → (m n : ℕ) → m ≤ n → n ≤ fed → lineStart ws m ≤ lineStart ws n
-  rising-to {fed} W m = le-ind (λ n. n ≤ fed → lineStart ws m ≤ lineStart ws n) (λ h. le-refl _) (λ n k below h. le-trans (below (omega arith)) (W .rising n h))
+  rising-to {fed} W m = le-ind (λ n. n ≤ fed → lineStart ws m ≤ lineStart ws n) (λ h. le-refl _)
+      (λ n k below h. le-trans (below (omega arith)) (W .rising n h))
 
   -- the runs of a line of sound words
   line-runs : {fed runs joins : ℕ} → Words fed runs joins → (i : ℕ) → i < fed → Runs (lineStart ws i) (lineStart ws (suc i))
@@ -55,12 +56,14 @@ module _ (L w : ℕ) (left : Bool) (ws : List ℕ) where
       low r n = omega (arith, rising-to W (suc i) fed l (le-refl fed), W .last)
 
   -- sound lines and one more
-  line-more : {i a k b : ℕ} (j : ℕ) → Words i a k → b ≡ lineStart ws (suc i) → a ≤ b → b ≤ a + mostRuns left w → Runs a b → j + nonRoots parent a ≡ nonRoots parent b → Words (suc i) b (k + j)
+  line-more : {i a k b : ℕ} (j : ℕ) → Words i a k → b ≡ lineStart ws (suc i) → a ≤ b → b ≤ a + mostRuns left w → Runs a b
+      → j + nonRoots parent a ≡ nonRoots parent b → Words (suc i) b (k + j)
   line-more {i} {a} {k} {b} j W is-b up room R count = record {
     first = W .first;
     rising = λ ℓ l. each (λ ℓ. lineStart ws ℓ ≤ lineStart ws (suc ℓ)) (W .rising) (omega (arith, W .last)) ℓ l (ℕ-discrete ℓ i);
     last = sym is-b;
-    room = λ ℓ l. each (λ ℓ. lineStart ws (suc ℓ) ≤ lineStart ws ℓ + mostRuns left w) (W .room) (omega (arith, W .last)) ℓ l (ℕ-discrete ℓ i);
+    room =
+        λ ℓ l. each (λ ℓ. lineStart ws (suc ℓ) ≤ lineStart ws ℓ + mostRuns left w) (W .room) (omega (arith, W .last)) ℓ l (ℕ-discrete ℓ i);
     nonempty = λ r l. both (λ r. start r < end r) (W .nonempty) (R .nonempty) r l (ltb r a) refl;
     inside = λ r l. both (λ r. end r ≤ w) (W .inside) (R .inside) r l (ltb r a) refl;
     ordered = λ ℓ l r m p q. near ℓ l r p q (ℕ-discrete ℓ i);
@@ -79,7 +82,8 @@ module _ (L w : ℕ) (left : Bool) (ws : List ℕ) where
       both F f g r l true t = f r (ltb-true r a t)
       both F f g r l false t = g r (ltb-false r a t) l
 
-      near : (ℓ : ℕ) → ℓ < suc i → (r : ℕ) → lineStart ws ℓ ≤ r → suc r < lineStart ws (suc ℓ) → Dec (ℓ ≡ i) → end r + gapOf left ≤ start (suc r)
+      near : (ℓ : ℕ) → ℓ < suc i → (r : ℕ) → lineStart ws ℓ ≤ r → suc r < lineStart ws (suc ℓ) → Dec (ℓ ≡ i)
+          → end r + gapOf left ≤ start (suc r)
       near ℓ l r p q (yes e) =
           let p' : lineStart ws i ≤ r = subst (λ (x : ℕ). lineStart ws x ≤ r) e p in
           let q' : suc r < lineStart ws (suc i) = subst (λ (x : ℕ). suc r < lineStart ws (suc x)) e q in
@@ -127,26 +131,38 @@ module _ (L w : ℕ) (left : Bool) (ws : List ℕ) where
     is-next = ap (lineStart ws) (add-one i)
 
     rises : wrong ≡ false → (a ≤ next) × (next ≤ a + mostRuns left w)
-    rises h = let p = or-false (ltb next a) (ltb (a + most) next) h in (ltb-false _ _ (p .0), omega (arith, ltb-false (a + most) next (p .1)))
+    rises h =
+        let p = or-false (ltb next a) (ltb (a + most) next) h in (ltb-false _ _ (p .0), omega (arith, ltb-false (a + most) next (p .1)))
 
     next-few : wrong ≡ false → next ≤ (i + 1) * mostRuns left w
     next-few h = omega (arith, rises h .1, T .few, ap (λ (x : ℕ). x * mostRuns left w) (add-one i) ∙ suc-mul i (mostRuns left w))
 
     pub line-wrong : {runs joins : ℕ} → wrong ≡ true → Words fed runs joins → ⊥
-    line-wrong h W = true≢false (sym h ∙ simp (le-ltb next a (omega (arith, is-next, W .rising i l, T .sound .last)), le-ltb (a + most) next (omega (arith, is-next, W .room i l, T .sound .last))) refl)
+    line-wrong h W = true≢false (sym h ∙ simp (
+      le-ltb next a (omega (arith, is-next, W .rising i l, T .sound .last)),
+      le-ltb (a + most) next (omega (arith, is-next, W .room i l, T .sound .last)),
+    ) refl)
 
     pub line-ready : wrong ≡ false → PassReady L w left fed ws → LineInPass L w a next ws
     line-ready h P =
         let m : i + 1 ≤ L = omega (arith, P .within) in
-        record { rising = rises h .0; memory = omega (arith, next-few h, mul-le-mul-right (mostRuns left w) m, P .memory); short = P .short }
+        record {
+          rising = rises h .0;
+          memory = omega (arith, next-few h, mul-le-mul-right (mostRuns left w) m, P .memory);
+          short =
+              P .short;
+        }
 
     pub line-unsound : {runs joins : ℕ} → (Runs a next → ⊥) → Words fed runs joins → ⊥
-    line-unsound h W = h (subst (λ (x : ℕ). Runs x next) (T .sound .last) (subst (λ (x : ℕ). Runs (lineStart ws i) x) (sym is-next) (line-runs W i l)))
+    line-unsound h W =
+        h (subst (λ (x : ℕ). Runs x next) (T .sound .last) (subst (λ (x : ℕ). Runs (lineStart ws i) x) (sym is-next) (line-runs W i l)))
 
-    pub lines-more : (j : ℕ) → wrong ≡ false → Runs a next × (j + nonRoots parent a ≡ nonRoots parent next) → LinesTo fed (i + 1) next (k + j)
+    pub lines-more : (j : ℕ) → wrong ≡ false → Runs a next × (j + nonRoots parent a ≡ nonRoots parent next)
+        → LinesTo fed (i + 1) next (k + j)
     lines-more j h R = record {
       upto = omega arith;
-      sound = subst (λ (x : ℕ). Words x next (k + j)) (sym (add-one i)) (line-more j (T .sound) is-next (rises h .0) (rises h .1) (R .0) (R .1));
+      sound = subst (λ (x : ℕ). Words x next (k + j)) (sym (add-one i))
+          (line-more j (T .sound) is-next (rises h .0) (rises h .1) (R .0) (R .1));
       few = next-few h;
     }
 
@@ -162,7 +178,10 @@ module _ (L w : ℕ) (left : Bool) (ws : List ℕ) where
 
     -- after the last line
     pub answer : {i a k : ℕ} → LinesTo fed i a k → fed ≤ i → (eqb a runs && eqb k joins) ≡ wordsSound L w left fed runs joins ws
-    answer {i} {a} {k} T l = bool-same (eqb a runs && eqb k joins) (wordsSound L w left fed runs joins ws) (λ h. right-words L w left fed runs joins ws (to (eqb-true a runs (and-left (eqb a runs) (eqb k joins) h)) (eqb-true k joins (and-right (eqb a runs) (eqb k joins) h)))) (λ h. from (words-right L w left fed runs joins ws h))
+    answer {i} {a} {k} T l = bool-same (eqb a runs && eqb k joins) (wordsSound L w left fed runs joins ws)
+        (λ h. right-words L w left fed runs joins ws
+        (to (eqb-true a runs (and-left (eqb a runs) (eqb k joins) h)) (eqb-true k joins (and-right (eqb a runs) (eqb k joins) h))))
+        (λ h. from (words-right L w left fed runs joins ws h))
       where
         S : Words fed a k
         S = let e : i ≡ fed = omega (arith, T .upto) in subst (λ (x : ℕ). Words x a k) e (T .sound)

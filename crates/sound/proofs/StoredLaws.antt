@@ -48,7 +48,8 @@ module _ (L w : ℕ) (left : Bool) (fed runs joins : ℕ) (ws : List ℕ) where
     join-count = eqb-true _ _ (every-at _ 9 h);
   }
     where
-      near : (ℓ r : ℕ) → lineStart ws ℓ ≤ r → suc r < lineStart ws (suc ℓ) → (beside ℓ r ≡ true) ⊎ (apart r ≡ true) → end r + gapOf left ≤ start (suc r)
+      near : (ℓ r : ℕ) → lineStart ws ℓ ≤ r → suc r < lineStart ws (suc ℓ) → (beside ℓ r ≡ true) ⊎ (apart r ≡ true)
+          → end r + gapOf left ≤ start (suc r)
       near ℓ r a b (inr e) = leb-true _ _ e
       near ℓ r a b (inl e) = out (or-cases (ltb r (lineStart ws ℓ)) (leb (lineStart ws (suc ℓ)) (suc r)) e)
         where
@@ -69,7 +70,8 @@ module _ (L w : ℕ) (left : Bool) (fed runs joins : ℕ) (ws : List ℕ) where
       (every-more _ _ (at-all _ fed (λ ℓ l. le-leb _ _ (S .room ℓ l)))
       (every-more _ _ (at-all _ runs (λ r l. lt-ltb _ _ (S .nonempty r l)))
       (every-more _ _ (at-all _ runs (λ r l. le-leb _ _ (S .inside r l)))
-      (every-more _ _ (at-all _ fed (λ ℓ l. at-all _ runs (λ r m. near ℓ r (S .ordered ℓ l r m) (leb (lineStart ws ℓ) r) refl (ltb (suc r) (lineStart ws (suc ℓ))) refl)))
+      (every-more _ _ (at-all _ fed (λ ℓ l. at-all _ runs
+      (λ r m. near ℓ r (S .ordered ℓ l r m) (leb (lineStart ws ℓ) r) refl (ltb (suc r) (lineStart ws (suc ℓ))) refl)))
       (every-more _ _ (lone left refl)
       (every-more _ _ (at-all _ runs (λ r l. le-leb _ _ (S .parents r l)))
       (every-more _ _ (eq-eqb _ _ (S .join-count))
@@ -77,8 +79,11 @@ module _ (L w : ℕ) (left : Bool) (fed runs joins : ℕ) (ws : List ℕ) where
     where
       near : (ℓ r : ℕ) → (lineStart ws ℓ ≤ r → suc r < lineStart ws (suc ℓ) → end r + gapOf left ≤ start (suc r)) → (a : Bool)
           → leb (lineStart ws ℓ) r ≡ a → (b : Bool) → ltb (suc r) (lineStart ws (suc ℓ)) ≡ b → (beside ℓ r || apart r) ≡ true
-      near ℓ r f false ea b eb = or-left (beside ℓ r) (apart r) (or-left (ltb r (lineStart ws ℓ)) (leb (lineStart ws (suc ℓ)) (suc r)) (lt-ltb _ _ (leb-false (lineStart ws ℓ) r ea)))
-      near ℓ r f true ea false eb = or-left (beside ℓ r) (apart r) (or-right (ltb r (lineStart ws ℓ)) (leb (lineStart ws (suc ℓ)) (suc r)) (le-leb _ _ (ltb-false (suc r) (lineStart ws (suc ℓ)) eb)))
+      near ℓ r f false ea b eb = or-left (beside ℓ r) (apart r)
+          (or-left (ltb r (lineStart ws ℓ)) (leb (lineStart ws (suc ℓ)) (suc r)) (lt-ltb _ _ (leb-false (lineStart ws ℓ) r ea)))
+      near ℓ r f true ea false eb = or-left (beside ℓ r) (apart r)
+          (or-right (ltb r (lineStart ws ℓ)) (leb (lineStart ws (suc ℓ)) (suc r))
+          (le-leb _ _ (ltb-false (suc r) (lineStart ws (suc ℓ)) eb)))
       near ℓ r f true ea true eb = or-right (beside ℓ r) (apart r) (le-leb _ _ (f (leb-true _ _ ea) (ltb-true _ _ eb)))
 
       lone : (b : Bool) → left ≡ b → (left || all-single) ≡ true

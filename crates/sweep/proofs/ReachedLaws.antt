@@ -21,7 +21,11 @@ module _ (lo hi : ℕ) (m c : Run) where
 
   pub swept-parts : swept lo hi m c ≡ true → (m .start + 1 < c .end + lo) × (c .start + 1 < m .end + hi)
   unfolding swept
-  swept-parts e = (ltb-true _ _ (and-left (ltb (m .start + 1) (c .end + lo)) _ e), leb-false _ _ (not-true _ (and-right (ltb (m .start + 1) (c .end + lo)) _ e)))
+  swept-parts e = (
+    ltb-true _ _ (and-left (ltb (m .start + 1) (c .end + lo)) _ e),
+    leb-false _ _
+        (not-true _ (and-right (ltb (m .start + 1) (c .end + lo)) _ e)),
+  )
 
   -- the second comparison alone decides, or leaves it to the first
   pub swept-shut : m .end + hi ≤ c .start + 1 → swept lo hi m c ≡ false
@@ -73,7 +77,9 @@ module _ (m c : Run) (hm : m .start < m .end) (hc : c .start < c .end) where
 
   -- the middle byte set: widened by next before the start and by prev past the end
   pub reaches-wide : (prev next : Bool) → reaches prev true next m c ≡ swept (wide next) (wide prev) m c
-  reaches-wide prev next = bool-same _ _ (λ e. there prev next (way prev true next e)) (λ e. let k = swept-parts (wide next) (wide prev) m c e in back prev true next (here prev next (k .0) (k .1) (ltb (m .start) (c .end)) refl (ltb (c .start) (m .end)) refl))
+  reaches-wide prev next = bool-same _ _ (λ e. there prev next (way prev true next e))
+      (λ e. let k = swept-parts (wide next) (wide prev) m c e in back prev true next
+      (here prev next (k .0) (k .1) (ltb (m .start) (c .end)) refl (ltb (c .start) (m .end)) refl))
     where
       there : (prev next : Bool) → Way prev true next → swept (wide next) (wide prev) m c ≡ true
       there true next (by-prev e k) = swept-true (wide next) 2 m c (omega arith) (omega arith)
@@ -82,7 +88,8 @@ module _ (m c : Run) (hm : m .start < m .end) (hc : c .start < c .end) where
       there prev true (by-next e k) = swept-true 2 (wide prev) m c (omega arith) (omega arith)
       there prev false (by-next e k) = absurd (true≢false (sym e))
 
-      here : (prev next : Bool) → m .start + 1 < c .end + wide next → c .start + 1 < m .end + wide prev → (x : Bool) → ltb (m .start) (c .end) ≡ x → (y : Bool) → ltb (c .start) (m .end) ≡ y → Way prev true next
+      here : (prev next : Bool) → m .start + 1 < c .end + wide next → c .start + 1 < m .end + wide prev → (x : Bool)
+          → ltb (m .start) (c .end) ≡ x → (y : Bool) → ltb (c .start) (m .end) ≡ y → Way prev true next
       here prev next a b true x true y = by-adj refl (ltb-true _ _ x, ltb-true _ _ y)
       here true next a b x′ x false y = let l = ltb-false (c .start) (m .end) y in by-prev refl (omega arith, omega arith)
       here false next a b x′ x false y = let l = ltb-false (c .start) (m .end) y in absurd (omega arith)
@@ -90,7 +97,8 @@ module _ (m c : Run) (hm : m .start < m .end) (hc : c .start < c .end) where
       here prev false a b false x true y = let l = ltb-false (m .start) (c .end) x in absurd (omega arith)
 
   -- the middle byte zero: shifted by one, to either side whose byte is set. Digits 0 and 2 are those of -1 and 1
-  pub reaches-sides : (prev next : Bool) → reaches prev false next m c ≡ true → ((prev ≡ true) × (swept 0 2 m c ≡ true)) ⊎ ((next ≡ true) × (swept 2 0 m c ≡ true))
+  pub reaches-sides : (prev next : Bool) → reaches prev false next m c ≡ true
+      → ((prev ≡ true) × (swept 0 2 m c ≡ true)) ⊎ ((next ≡ true) × (swept 2 0 m c ≡ true))
   reaches-sides prev next e = go (way prev false next e)
     where
       go : Way prev false next → ((prev ≡ true) × (swept 0 2 m c ≡ true)) ⊎ ((next ≡ true) × (swept 2 0 m c ≡ true))

@@ -63,11 +63,13 @@ le-left n m (negsuc zero) k =
 le-left n m (negsuc (suc b)) k = absurd (omega arith)
 
 -- ---- whole: what a test in the code is
-pub test-lt-left : (n m : ℕ) (o : ℤ) → n < 2 ^ 32 → m < 2 ^ 32 → digit o ≤ 2 → ltZ (toZ w64 (ofZ w64 (toZ w64 n +ℤ o))) (toZ w64 m) ≡ ltb (n + digit o) (m + 1)
+pub test-lt-left : (n m : ℕ) (o : ℤ) → n < 2 ^ 32 → m < 2 ^ 32 → digit o ≤ 2
+    → ltZ (toZ w64 (ofZ w64 (toZ w64 n +ℤ o))) (toZ w64 m) ≡ ltb (n + digit o) (m + 1)
 test-lt-left n m o h h′ k =
     ap (λ (z : ℤ). ltZ z (toZ w64 m)) (shifted n o h k) ∙ ap (ltZ (pos n +ℤ o)) (small m h′) ∙ lt-left n m o k
 
-pub test-le-left : (n m : ℕ) (o : ℤ) → n < 2 ^ 32 → m < 2 ^ 32 → digit o ≤ 2 → leZ (toZ w64 (ofZ w64 (toZ w64 n +ℤ o))) (toZ w64 m) ≡ leb (n + digit o) (m + 1)
+pub test-le-left : (n m : ℕ) (o : ℤ) → n < 2 ^ 32 → m < 2 ^ 32 → digit o ≤ 2
+    → leZ (toZ w64 (ofZ w64 (toZ w64 n +ℤ o))) (toZ w64 m) ≡ leb (n + digit o) (m + 1)
 test-le-left n m o h h′ k =
     ap (λ (z : ℤ). leZ z (toZ w64 m)) (shifted n o h k) ∙ ap (leZ (pos n +ℤ o)) (small m h′) ∙ le-left n m o k
 

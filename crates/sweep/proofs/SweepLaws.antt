@@ -23,7 +23,8 @@ module _ (R : ℕ → Run) (a b : ℕ) (O : InOrder R a b) where
   pub rises : (i j : ℕ) → a ≤ i → i ≤ j → j < b → (R i .start ≤ R j .start) × (R i .end ≤ R j .end)
   rises i j ai ij jb = le-ind (λ k. k < b → (R i .start ≤ R k .start) × (R i .end ≤ R k .end)) (λ h. (le-refl _, le-refl _)) step j ij jb
     where
-      step : (k : ℕ) → i ≤ k → (k < b → (R i .start ≤ R k .start) × (R i .end ≤ R k .end)) → suc k < b → (R i .start ≤ R (suc k) .start) × (R i .end ≤ R (suc k) .end)
+      step : (k : ℕ) → i ≤ k → (k < b → (R i .start ≤ R k .start) × (R i .end ≤ R k .end)) → suc k < b
+          → (R i .start ≤ R (suc k) .start) × (R i .end ≤ R (suc k) .end)
       step k ik below h =
           let u = below (omega arith) in
           let o = O .ordered k (omega arith) h in
@@ -50,25 +51,33 @@ module _ (lo : ℕ) (R : ℕ → Run) (i j : ℕ) where
   row-parts k nb h l =
       let x : nb - j ≡ (k - j) + (nb - k) = omega arith in
       let y : j + (k - j) ≡ k = omega arith in
-      rw x (pairs-parts (starts lo R) i j (k - j) (nb - k) ∙ ap (λ (b : ℕ). pairs (starts lo R) i 1 j (k - j) ++ pairs (starts lo R) i 1 b (nb - k)) y)
+      rw x (pairs-parts (starts lo R) i j (k - j) (nb - k)
+      ∙ ap (λ (b : ℕ). pairs (starts lo R) i 1 j (k - j) ++ pairs (starts lo R) i 1 b (nb - k)) y)
 
   row-one : (k : ℕ) → starts lo R i k ≡ true → rowPairs lo R i k (k + 1) ≡ record { from = i; to = k } ∷ []
   unfolding rowPairs pairs gather
   row-one k e = let z : k + 1 - k ≡ 1 = omega arith in rw z (rw e)
 
   -- one run more, which starts in time
-  pub row-more : (k : ℕ) → j ≤ k → starts lo R i k ≡ true → rowPairs lo R i j (k + 1) ≡ rowPairs lo R i j k ++ (record { from = i; to = k } ∷ [])
+  pub row-more : (k : ℕ) → j ≤ k → starts lo R i k ≡ true
+      → rowPairs lo R i j (k + 1) ≡ rowPairs lo R i j k ++ (record { from = i; to = k } ∷ [])
   row-more k h e = row-parts k (k + 1) h (omega arith) ∙ ap (λ (l : List Edge). rowPairs lo R i j k ++ l) (row-one k e)
 
   -- where run k does not start in time, none after it does
-  pub row-stop : (k nb : ℕ) → InOrder R j nb → j ≤ k → k ≤ nb → (k < nb → starts lo R i k ≡ false) → rowPairs lo R i j nb ≡ rowPairs lo R i j k
+  pub row-stop : (k nb : ℕ) → InOrder R j nb → j ≤ k → k ≤ nb → (k < nb → starts lo R i k ≡ false)
+      → rowPairs lo R i j nb ≡ rowPairs lo R i j k
   row-stop k nb O h l e = row-parts k nb h l ∙ ap (λ (l : List Edge). rowPairs lo R i j k ++ l) none ∙ append-nil (rowPairs lo R i j k)
     where
       late : (s : ℕ) → k ≤ s → s < nb → starts lo R i s ≡ false
-      late s u v = le-ltb (R s .start + 1) (R i .end + lo) (omega (arith, ltb-false (R k .start + 1) (R i .end + lo) (e (omega arith)), rises R j nb O k s h u v))
+      late s u v = le-ltb (R s .start + 1) (R i .end + lo) (omega (
+        arith,
+        ltb-false (R k .start + 1) (R i .end + lo) (e (omega arith)),
+        rises R j nb O k s h u v,
+      ))
 
       none : rowPairs lo R i k nb ≡ []
-      none = unfold rowPairs in pairs-none (starts lo R) i 1 k (nb - k) (λ r s p q u v. let z : r ≡ i = omega arith in rw z (late s u (omega arith)))
+      none = unfold rowPairs in pairs-none (starts lo R) i 1 k (nb - k)
+          (λ r s p q u v. let z : r ≡ i = omega arith in rw z (late s u (omega arith)))
 
   pub row-ends : (nb n : ℕ) → i < n → j ≤ nb → nb ≤ n → Ends (λ r. r < n) (rowPairs lo R i j nb)
   unfolding rowPairs
@@ -95,20 +104,24 @@ module _ (lo hi : ℕ) (R : ℕ → Run) (at : LinePair) where
   sweep-none ca = pairs-none passes ca (ca - ca) na (nb - na) (λ r s p q u v. absurd (omega arith))
 
   -- one row more
-  pub sweep-more : (ca i : ℕ) → ca ≤ i → sweepPairs lo hi R (between at ca (i + 1)) ≡ sweepPairs lo hi R (between at ca i) ++ sweepPairs lo hi R (between at i (i + 1))
+  pub sweep-more : (ca i : ℕ) → ca ≤ i
+      → sweepPairs lo hi R (between at ca (i + 1)) ≡ sweepPairs lo hi R (between at ca i) ++ sweepPairs lo hi R (between at i (i + 1))
   unfolding sweepPairs
   sweep-more ca i h =
       let x : i + 1 - ca ≡ (i - ca) + 1 = omega arith in
       let y : i + 1 - i ≡ 1 = omega arith in
       let z : ca + (i - ca) ≡ i = omega arith in
-      rw (x, y) (pairs-rows passes ca (i - ca) 1 na (nb - na) ∙ ap (λ (k : ℕ). pairs passes ca (i - ca) na (nb - na) ++ pairs passes k 1 na (nb - na)) z)
+      rw (x, y) (pairs-rows passes ca (i - ca) 1 na (nb - na)
+      ∙ ap (λ (k : ℕ). pairs passes ca (i - ca) na (nb - na) ++ pairs passes k 1 na (nb - na)) z)
 
-  pub sweep-ends : (ca i cb : ℕ) → ca ≤ i → i ≤ cb → at .na ≤ at .nb → at .nb ≤ cb → Ends (λ r. r < cb) (sweepPairs lo hi R (between at ca i))
+  pub sweep-ends : (ca i cb : ℕ) → ca ≤ i → i ≤ cb → at .na ≤ at .nb → at .nb ≤ cb
+      → Ends (λ r. r < cb) (sweepPairs lo hi R (between at ca i))
   unfolding sweepPairs
   sweep-ends ca i cb h g k l = pairs-ends passes ca (i - ca) na (nb - na) cb (omega arith) (omega arith)
 
   -- a row: run j is the first that does not end by the start of run i
-  pub sweep-row : (i j : ℕ) → InOrder R (at .na) (at .nb) → at .na ≤ j → Skipped hi R i (at .na) (at .nb) j → sweepPairs lo hi R (between at i (i + 1)) ≡ rowPairs lo R i j (at .nb)
+  pub sweep-row : (i j : ℕ) → InOrder R (at .na) (at .nb) → at .na ≤ j → Skipped hi R i (at .na) (at .nb) j
+      → sweepPairs lo hi R (between at i (i + 1)) ≡ rowPairs lo R i j (at .nb)
   unfolding sweepPairs rowPairs
   sweep-row i j O h S =
       let z : i + 1 - i ≡ 1 = omega arith in

@@ -21,7 +21,8 @@ use Rattle.forest.proofs.ParentLaws.{parents-fewer, kept-parents}
 use Rattle.forest.proofs.UnitedLaws.{united-none, united-then, united-groups, joined-united}
 use Rattle.sweep.specs.declared.LinePair.{LinePair}
 use Rattle.sweep.specs.Sweeps.{digit, runIn, InOrder, TwoLines, ToSkip, Skipped, ToRow, rowPairs, RowUnites, sweepPairs}
-use Rattle.sweep.proofs.SweepLaws.{starts, order-from, row-none, row-more, row-stop, row-ends, between, sweep-none, sweep-more, sweep-row, sweep-ends, rises}
+use Rattle.sweep.proofs.SweepLaws.{starts, order-from, row-none, row-more, row-stop, row-ends, between, sweep-none, sweep-more}
+use Rattle.sweep.proofs.SweepLaws.{sweep-row, sweep-ends, rises}
 
 -- ---- unions leave starts and ends
 
@@ -36,7 +37,13 @@ module _ {p q : List ℕ} {n : ℕ} (K : ParentsOnly p q n) where
   runs-kept = fun-ext (λ r. ap₂ (λ (s : ℕ) (e : ℕ). record { start = s; end = e }) (start-kept r) (end-kept r))
 
 pub lines-kept : {p q : List ℕ} {at : LinePair} → TwoLines p at → ParentsOnly p q (at .cb) → TwoLines q at
-lines-kept {p} {q} {at} L K = record { parents = kept-parents p q (at .cb) (L .parents) K; current = rw (runs-kept K) (L .current); neighbour = rw (runs-kept K) (L .neighbour); before = L .before }
+lines-kept {p} {q} {at} L K = record {
+  parents = kept-parents p q (at .cb) (L .parents) K;
+  current = rw (runs-kept K)
+      (L .current);
+  neighbour = rw (runs-kept K) (L .neighbour);
+  before = L .before;
+}
 
 -- no more joins than runs
 pub united-few : {p q : List ℕ} {n : ℕ} {es : List Edge} {t : ℕ} → Parents p n → Ends (λ r. r < n) es → United p q n es t → t ≤ n
@@ -75,7 +82,14 @@ pub record RowTo (p : List ℕ) (lo i j nb : ℕ) (q : List ℕ) (k t : ℕ) : T
 
 module _ {p : List ℕ} {lo i j nb : ℕ} where
   pub row-begins : j ≤ nb → RowTo p lo i j nb p j 0
-  row-begins h = record { low = le-refl j; high = h; few = omega arith; long = refl; united = λ n P a b. rw (row-none lo (runIn p) i j) (united-none p n P) }
+  row-begins h = record {
+    low = le-refl j;
+    high = h;
+    few = omega arith;
+    long = refl;
+    united = λ n P a b. rw (row-none lo (runIn p) i j)
+        (united-none p n P);
+  }
 
   module _ {q : List ℕ} {k t : ℕ} (P : Parents p (max (suc i) nb)) (T : RowTo p lo i j nb q k t) where
     row-kept : ParentsOnly p q (max (suc i) nb)
@@ -88,7 +102,8 @@ module _ {p : List ℕ} {lo i j nb : ℕ} where
     row-test : (b : Bool) → ltb (runIn q k .start + 1) (runIn p i .end + lo) ≡ b → starts lo (runIn p) i k ≡ b
     row-test b e = ap (λ (x : ℕ). ltb (x + 1) (runIn p i .end + lo)) (sym (start-kept row-kept k)) ∙ e
 
-    pub row-turn : {s : List ℕ} {b : Bool} → k < nb → ltb (runIn q k .start + 1) (runIn p i .end + lo) ≡ true → Unites q s i k b → RowTo p lo i j nb s (k + 1) (t + boolByte b)
+    pub row-turn : {s : List ℕ} {b : Bool} → k < nb → ltb (runIn q k .start + 1) (runIn p i .end + lo) ≡ true → Unites q s i k b
+        → RowTo p lo i j nb s (k + 1) (t + boolByte b)
     row-turn {s} {b} h e J =
         record {
           low = omega (arith, T .low);
@@ -99,7 +114,8 @@ module _ {p : List ℕ} {lo i j nb : ℕ} where
               let U = T .united n Q a c in
               let Q′ = kept-parents p q n Q (U .kept) in
               rw (byte b, row-more lo (runIn p) i j k (T .low) (row-test true e))
-              (united-then p n Q q (rowPairs lo (runIn p) i j k) t (row-ends lo (runIn p) i j k n a (T .low) (omega arith)) U s (record { from = i; to = k } ∷ []) (cond b 1 0)
+              (united-then p n Q q (rowPairs lo (runIn p) i j k) t (row-ends lo (runIn p) i j k n a (T .low) (omega arith)) U s
+              (record { from = i; to = k } ∷ []) (cond b 1 0)
               (joined-united q n Q′ s i k b a (omega arith) (J n Q′ a (omega arith))));
         }
       where
@@ -145,7 +161,12 @@ module _ {p : List ℕ} {lo hi : ℕ} {at : LinePair} (L : TwoLines p at) where
 
     -- what skip and row ask, and a bound of the sum
     pub skip-asked : {o : ℤ} → digit o ≤ 2 → i < at .cb → ToSkip q i j (at .nb) o
-    skip-asked h l = record { here = omega (arith, now-lines .parents .room); room = omega (arith, now-lines .parents .room, L .before); upto = T .high; is-hi = h }
+    skip-asked h l = record {
+      here = omega (arith, now-lines .parents .room);
+      room = omega (arith, now-lines .parents .room, L .before);
+      upto = T .high;
+      is-hi = h;
+    }
 
     pub row-asked : {o : ℤ} {r : ℕ} → digit o ≤ 2 → i < at .cb → Skipped hi (runIn q) i j (at .nb) r → ToRow q i r (at .nb) o
     row-asked {r = r} h l S =
@@ -158,17 +179,26 @@ module _ {p : List ℕ} {lo hi : ℕ} {at : LinePair} (L : TwoLines p at) where
     pub sweep-few : t ≤ at .cb
     sweep-few = united-few (L .parents) ends (T .united)
 
-    pub sweep-turn : {s : List ℕ} {r u : ℕ} → i < at .cb → Skipped hi (runIn q) i j (at .nb) r → RowUnites q s i r (at .nb) lo u → SweepTo p lo hi at s (i + 1) r (t + u)
+    pub sweep-turn : {s : List ℕ} {r u : ℕ} → i < at .cb → Skipped hi (runIn q) i j (at .nb) r → RowUnites q s i r (at .nb) lo u
+        → SweepTo p lo hi at s (i + 1) r (t + u)
     sweep-turn {s} {r} {u} h S W =
         record {
           from = omega (arith, T .from);
           upto = omega arith;
           low = omega (arith, T .low, S .low);
           high = S .high;
-          past = λ l k a b. omega (arith, before k a b (ltb k j) refl, rises (runIn p) (at .ca) (at .cb) (L .current) i (i + 1) (T .from) (omega arith) l);
+          past = λ l k a b. omega (
+            arith,
+            before k a b (ltb k j) refl,
+            rises (runIn p) (at .ca) (at .cb) (L .current) i (i + 1) (T .from) (omega arith) l,
+          );
           united =
-              rw (sweep-more lo hi (runIn p) at (at .ca) i (T .from), sweep-row lo hi (runIn p) at i r (L .neighbour) (omega (arith, T .low, S .low)) whole)
-              (united-then p (at .cb) (L .parents) q (sweepPairs lo hi (runIn p) (between at (at .ca) i)) t ends (T .united) s (rowPairs lo (runIn p) i r (at .nb)) u row);
+              rw (
+                sweep-more lo hi (runIn p) at (at .ca) i (T .from),
+                sweep-row lo hi (runIn p) at i r (L .neighbour) (omega (arith, T .low, S .low)) whole,
+              )
+              (united-then p (at .cb) (L .parents) q (sweepPairs lo hi (runIn p) (between at (at .ca) i)) t ends (T .united) s
+              (rowPairs lo (runIn p) i r (at .nb)) u row);
         }
       where
         same : runIn q ≡ runIn p
@@ -182,10 +212,19 @@ module _ {p : List ℕ} {lo hi : ℕ} {at : LinePair} (L : TwoLines p at) where
         before k a c false e = skipped .past k (ltb-false k j e) c
 
         whole : Skipped hi (runIn p) i (at .na) (at .nb) r
-        whole = record { low = omega (arith, T .low, S .low); high = S .high; past = λ k a c. before k a c (ltb k j) refl; stop = skipped .stop }
+        whole = record {
+          low = omega (arith, T .low, S .low);
+          high = S .high;
+          past = λ k a c. before k a c
+              (ltb k j) refl;
+          stop = skipped .stop;
+        }
 
         row : United q s (at .cb) (rowPairs lo (runIn p) i r (at .nb)) u
-        row = subst (λ (R : ℕ → Run). United q s (at .cb) (rowPairs lo R i r (at .nb)) u) same (W (at .cb) (now-lines .parents) h (L .before))
+        row = subst (λ (R : ℕ → Run). United q s (at .cb) (rowPairs lo R i r (at .nb)) u) same
+            (W (at .cb) (now-lines .parents) h (L .before))
 
     pub sweep-done : at .cb ≤ i → United p q (at .cb) (sweepPairs lo hi (runIn p) at) t
-    sweep-done h = let e : i ≡ at .cb = omega (arith, T .upto) in subst (λ (k : ℕ). United p q (at .cb) (sweepPairs lo hi (runIn p) (between at (at .ca) k)) t) e (T .united)
+    sweep-done h =
+        let e : i ≡ at .cb = omega (arith, T .upto) in
+        subst (λ (k : ℕ). United p q (at .cb) (sweepPairs lo hi (runIn p) (between at (at .ca) k)) t) e (T .united)

@@ -19,9 +19,10 @@ use Rattle.frame.specs.Runs.{Run}
 use Rattle.frame.specs.Words.{lineStart, parentOf, nameOf, storedRun}
 use Rattle.forest.specs.Forest.{numberIn}
 use Rattle.sweep.specs.Sweeps.{InOrder}
-use Rattle.write.specs.Writes.{NamesReady, named, LinesHeld, WriteReady, outputAt, AtCell, LinesWritten}
-use Rattle.write.specs.Steps.{Named, LineToName, Filled, LineToPaint, Painted, LinePainted}
-use Rattle.write.proofs.NameLaws.{now-long, now-runs, now-start, now-ready, now-name, named-then, named-still, number-le, named-none}
+use Rattle.names.specs.Names.{NamesReady, named, Named, LineToName}
+use Rattle.write.specs.Writes.{LinesHeld, WriteReady, outputAt, AtCell, LinesWritten}
+use Rattle.write.specs.Steps.{Filled, LineToPaint, Painted, LinePainted}
+use Rattle.names.proofs.NameLaws.{now-long, now-runs, now-start, now-ready, now-name, named-then, named-still, number-le, named-none}
 use Rattle.write.proofs.LineLaws.{painted-as}
 
 -- ---- places of lines

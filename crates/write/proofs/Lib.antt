@@ -1,4 +1,3 @@
-pub mod NameLaws
 pub mod PaintLaws
 pub mod LineLaws
 pub mod BlockLaws

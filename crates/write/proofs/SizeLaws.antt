@@ -18,8 +18,9 @@ use Rattle.frame.specs.Runs.{Run}
 use Rattle.frame.specs.Words.{runStart, runEnd, parentOf, nameOf}
 use Rattle.forest.specs.Forest.{numberIn}
 use Rattle.write.specs.Writes.{runCells, SizesReady, SizesWritten}
-use Rattle.write.specs.Steps.{Named, NameReady, Filled}
-use Rattle.write.proofs.NameLaws.{now-long, now-runs, now-name, number-pos, number-le, named-none, next-asked, next-named}
+use Rattle.names.specs.Names.{Named, NameReady}
+use Rattle.write.specs.Steps.{Filled}
+use Rattle.names.proofs.NameLaws.{now-long, now-runs, now-name, number-pos, number-le, named-none, next-asked, next-named}
 
 -- ---- how many cells the first runs with a number have
 

@@ -1,4 +1,4 @@
--- What the steps of a reading ask and do: the names of one run and of a line's, cells filled with one number, one line painted.
+-- What the steps of painting ask and do: cells filled with one number, one line.
 -- Assumes nothing.
 use mathlib.Core.Path.{_≡_}
 use mathlib.Core.List.{List}
@@ -7,29 +7,9 @@ use lib.ListN.{length}
 use Rattle.frame.specs.Kinds.{Number, largest, Value, write}
 use Rattle.frame.specs.Memory.{stride}
 use Rattle.frame.specs.Runs.{Run, Covers}
-use Rattle.frame.specs.Words.{lineStart, runEnd, parentOf, nameOf, storedRun}
-use Rattle.forest.specs.Forest.{roots}
+use Rattle.frame.specs.Words.{lineStart, runEnd, nameOf, storedRun}
 use Rattle.sweep.specs.Sweeps.{InOrder}
-use Rattle.write.specs.Writes.{NamesReady, named, outputAt}
-
--- ---- names
-
--- from ws to ws′ the first n runs got their names, and c counts the roots among them
-pub record Named (L n : ℕ) (ws ws′ : List ℕ) (c : ℕ) : Type 0 where
-  pub names : ws′ ≡ named L n ws
-  pub counted : c ≡ roots (parentOf L ws) n
-
--- run r is the next to be named: those before it have their names
-pub record NameReady (L r : ℕ) (ws : List ℕ) (c : ℕ) : Type 0 where
-  pub runs : NamesReady L (suc r) ws
-  pub before : Named L r ws ws c
-
--- the runs of line ℓ are the next to be named: those before them have their names
-pub record LineToName (L ℓ : ℕ) (ws : List ℕ) (c : ℕ) : Type 0 where
-  pub within : ℓ < L
-  pub runs : NamesReady L (lineStart ws (suc ℓ)) ws
-  pub rising : lineStart ws ℓ ≤ lineStart ws (suc ℓ)
-  pub before : Named L (lineStart ws ℓ) ws ws c
+use Rattle.write.specs.Writes.{outputAt}
 
 -- ---- cells
 

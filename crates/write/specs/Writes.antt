@@ -1,4 +1,4 @@
--- What naming the runs, writing the numbers of cells and counting the cells of each group ask, and what they do.
+-- What writing the numbers of cells and counting the cells of each group ask, and what they do. Both name the runs.
 -- Assumes nothing.
 use mathlib.Core.Path.{_≡_}
 use mathlib.Core.Bool.{cond}
@@ -7,24 +7,11 @@ use Prim.Native.Nat.{ℕ, zero, suc, _+_, _-_, _*_, _≤_, _<_}
 use lib.Dec.{eqb}
 use lib.ListN.{length, getD}
 use Rattle.frame.specs.Kinds.{Number, largest, Value, write}
-use Rattle.frame.specs.Lists.{setAll}
 use Rattle.frame.specs.Runs.{Covers}
-use Rattle.frame.specs.Memory.{stride}
-use Rattle.frame.specs.Words.{lineStart, runStart, runEnd, parentOf, storedRun, namePlace}
+use Rattle.frame.specs.Words.{lineStart, runStart, runEnd, parentOf, storedRun}
 use Rattle.forest.specs.Forest.{roots, numberIn}
 use Rattle.sweep.specs.Sweeps.{InOrder}
-
--- ---- names
-
--- the first n runs' words are there, no parent is above its run, and words hold their numbers
-pub record NamesReady (L n : ℕ) (ws : List ℕ) : Type 0 where
-  pub room : L + 1 + stride * n ≤ length ws
-  pub parents : (r : ℕ) → r < n → parentOf L ws r ≤ r
-  pub small : n < 4294967295
-
--- each of the first n runs has its number as its name, and every other word stands
-abbrev pub named : ℕ → ℕ → List ℕ → List ℕ
-named L n ws = setAll (namePlace L) (numberIn (parentOf L ws)) n ws
+use Rattle.names.specs.Names.{NamesReady, named}
 
 -- ---- the numbers of cells
 

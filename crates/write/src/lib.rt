@@ -1,22 +1,19 @@
 // What a reading and a size call write. Nothing here knows a record.
 //
-//     name_run, name_line   the names of one run and of one line's runs: their numbers
 //     paint_run_T           one run's cells, for each kind of number T
 //     paint_line_T          one line's cells, each with the name of its run, into that line's part of the output
 //     write_block_T         every line: the fed ones named and painted, zeros for the others
 //     size_block            how many cells each number has
 //
-// Naming writes words and no output, once for all kinds; painting reads words and writes the output. Promised (specs/Writes.antt): each
-// run has its number as its name and no other word changes, each cell has the number of the run that covers it or 0, and each size is the
-// count of its number's cells.
+// Crate names writes the names, once for all kinds; painting reads them and writes the output. Promised (specs/Writes.antt): each run has
+// its number as its name and no other word changes, each cell has the number of the run that covers it or 0, and each size is the count
+// of its number's cells.
 ghost use mathlib.Core.Path.{_≡_};
-ghost use Prim.Native.Nat.{suc, _+_, _*_, _≤_, _<_};
-ghost use lib.ListN.{length, getD};
-ghost use Rattle.frame.specs.Memory.{stride};
-ghost use Rattle.frame.specs.Words.{lineStart};
+ghost use Prim.Native.Nat.{_+_, _≤_};
+ghost use lib.ListN.{length};
 ghost use Rattle.frame.specs.Kinds.{u8, u16, u32, write};
 ghost use Rattle.write.specs.Writes.{WriteReady, LinesWritten, SizesReady, SizesWritten};
-ghost use Rattle.write.specs.Steps.{Named, NameReady, LineToName, Filled, PaintReady, LineToPaint, LinePainted};
+ghost use Rattle.write.specs.Steps.{Filled, PaintReady, LineToPaint, LinePainted};
 
 // ---- kinds of numbers: the largest, and a number written as one
 
@@ -57,55 +54,6 @@ impl LabelU32 {
     {
         number
     }
-}
-
-// ---- names
-
-// How many runs stand before `line`.
-fn line_start(words: &[u32], line: usize) -> usize
-    requires { ⌜ line < length (now words) ⌝ }
-    ensures { λ s. ⌜ s ≡ lineStart (now (words .entry)) line ⌝ }
-{
-    words[line] as usize
-}
-
-// Word `part` of run `r`.
-fn word(words: &[u32], lines: usize, r: usize, part: usize) -> u32
-    requires { ⌜ (part < stride) × (lines + 1 + stride * suc r ≤ length (now words)) ⌝ }
-    ensures { λ s. ⌜ s ≡ getD (now (words .entry)) (lines + 1 + (stride * r + part)) 0 ⌝ }
-{
-    words[lines + 1 + (frame::STRIDE * r + part)]
-}
-
-// Names run `r`, where the runs before it are named and `c` counts the roots among them; answers the count of roots up to it. A root's
-// number is the new count, every other run's that of its parent. Both are read at the parent, without a branch: at a root the new count
-// was just stored.
-fn name_run(words: &mut [u32], lines: usize, r: usize, c: u32) -> u32
-    requires { ⌜ NameReady lines r (now words) c ⌝ }
-    ensures { λ n. ⌜ Named lines (suc r) (now (words .entry)) (now (words .exit)) n ⌝ }
-{
-    let up = word(words, lines, r, frame::PARENT) as usize;
-    let at = lines + 1 + (frame::STRIDE * r + frame::NAME);
-    words[at] = c + 1;
-    let number = word(words, lines, up, frame::NAME);
-    words[at] = number;
-    c + (up == r) as u32
-}
-
-// Names the runs of a line, where the runs before it are named and `c` counts the roots among them; answers the count of roots up to
-// the line's last run.
-fn name_line(words: &mut [u32], lines: usize, line: usize, c: u32) -> u32
-    requires { ⌜ LineToName lines line (now words) c ⌝ }
-    ensures { λ n. ⌜ Named lines (lineStart (now (words .entry)) (suc line)) (now (words .entry)) (now (words .exit)) n ⌝ }
-{
-    let last = line_start(words, line + 1);
-    let mut named = c;
-    let mut r = line_start(words, line);
-    while r < last {
-        named = name_run(words, lines, r, named);
-        r += 1;
-    }
-    named
 }
 
 // ---- numbers as u8
@@ -158,19 +106,19 @@ fn paint_line_u8(words: &[u32], g: geo::Geo, line: usize, out: &mut [u8])
     ensures { λ _. ⌜ LinePainted u8 (g .lines) (g .width) line (now (words .entry)) (now (out .entry)) (now (out .exit)) ⌝ }
 {
     fill_u8(out, 0, g.width, 0);
-    let last = line_start(words, line + 1);
-    let mut r = line_start(words, line);
+    let last = names::line_start(words, line + 1);
+    let mut r = names::line_start(words, line);
     while r < last {
-        let start = word(words, g.lines, r, 0) as usize;
-        let end = word(words, g.lines, r, frame::END) as usize;
-        let name = LabelU8::from_u32(word(words, g.lines, r, frame::NAME));
+        let start = names::word(words, g.lines, r, 0) as usize;
+        let end = names::word(words, g.lines, r, frame::END) as usize;
+        let name = LabelU8::from_u32(names::word(words, g.lines, r, frame::NAME));
         paint_run_u8(out, start, end, g.width, name);
         r += 1;
     }
 }
 
-// Names all runs, writes each fed line's numbers, and zeros to the other lines. Each line is painted as soon as its runs are named,
-// while their words are at hand.
+// Names all runs, writes each fed line's numbers, and zeros to the other lines. Each line is painted right after its runs are
+// named, while their words are in the cache.
 pub fn write_block_u8(words: &mut [u32], g: geo::Geo, fed: usize, out: &mut [u8])
     requires { ⌜ WriteReady u8 (g .lines) (g .width) fed (now words) (length (now out)) ⌝ }
     ensures { λ _. ⌜ LinesWritten u8 (g .lines) (g .width) fed
@@ -180,7 +128,7 @@ pub fn write_block_u8(words: &mut [u32], g: geo::Geo, fed: usize, out: &mut [u8]
     let mut line: usize = 0;
     while line < fed {
         let at = line * g.width;
-        named = name_line(words, g.lines, line, named);
+        named = names::name_line(words, g.lines, line, named);
         paint_line_u8(words, g, line, &mut out[at..]);
         line += 1;
     }
@@ -233,12 +181,12 @@ fn paint_line_u16(words: &[u32], g: geo::Geo, line: usize, out: &mut [u16])
     ensures { λ _. ⌜ LinePainted u16 (g .lines) (g .width) line (now (words .entry)) (now (out .entry)) (now (out .exit)) ⌝ }
 {
     fill_u16(out, 0, g.width, 0);
-    let last = line_start(words, line + 1);
-    let mut r = line_start(words, line);
+    let last = names::line_start(words, line + 1);
+    let mut r = names::line_start(words, line);
     while r < last {
-        let start = word(words, g.lines, r, 0) as usize;
-        let end = word(words, g.lines, r, frame::END) as usize;
-        let name = LabelU16::from_u32(word(words, g.lines, r, frame::NAME));
+        let start = names::word(words, g.lines, r, 0) as usize;
+        let end = names::word(words, g.lines, r, frame::END) as usize;
+        let name = LabelU16::from_u32(names::word(words, g.lines, r, frame::NAME));
         paint_run_u16(out, start, end, g.width, name);
         r += 1;
     }
@@ -253,7 +201,7 @@ pub fn write_block_u16(words: &mut [u32], g: geo::Geo, fed: usize, out: &mut [u1
     let mut line: usize = 0;
     while line < fed {
         let at = line * g.width;
-        named = name_line(words, g.lines, line, named);
+        named = names::name_line(words, g.lines, line, named);
         paint_line_u16(words, g, line, &mut out[at..]);
         line += 1;
     }
@@ -306,12 +254,12 @@ fn paint_line_u32(words: &[u32], g: geo::Geo, line: usize, out: &mut [u32])
     ensures { λ _. ⌜ LinePainted u32 (g .lines) (g .width) line (now (words .entry)) (now (out .entry)) (now (out .exit)) ⌝ }
 {
     fill_u32(out, 0, g.width, 0);
-    let last = line_start(words, line + 1);
-    let mut r = line_start(words, line);
+    let last = names::line_start(words, line + 1);
+    let mut r = names::line_start(words, line);
     while r < last {
-        let start = word(words, g.lines, r, 0) as usize;
-        let end = word(words, g.lines, r, frame::END) as usize;
-        let name = LabelU32::from_u32(word(words, g.lines, r, frame::NAME));
+        let start = names::word(words, g.lines, r, 0) as usize;
+        let end = names::word(words, g.lines, r, frame::END) as usize;
+        let name = LabelU32::from_u32(names::word(words, g.lines, r, frame::NAME));
         paint_run_u32(out, start, end, g.width, name);
         r += 1;
     }
@@ -326,7 +274,7 @@ pub fn write_block_u32(words: &mut [u32], g: geo::Geo, fed: usize, out: &mut [u3
     let mut line: usize = 0;
     while line < fed {
         let at = line * g.width;
-        named = name_line(words, g.lines, line, named);
+        named = names::name_line(words, g.lines, line, named);
         paint_line_u32(words, g, line, &mut out[at..]);
         line += 1;
     }
@@ -347,10 +295,10 @@ pub fn size_block(words: &mut [u32], lines: usize, runs: usize, sizes: &mut [u32
     let mut named: u32 = 0;
     let mut r: usize = 0;
     while r < runs {
-        named = name_run(words, lines, r, named);
-        let start = word(words, lines, r, 0);
-        let end = word(words, lines, r, frame::END);
-        let number = word(words, lines, r, frame::NAME);
+        named = names::name_run(words, lines, r, named);
+        let start = names::word(words, lines, r, 0);
+        let end = names::word(words, lines, r, frame::END);
+        let number = names::word(words, lines, r, frame::NAME);
         sizes[number as usize - 1] += end - start;
         r += 1;
     }

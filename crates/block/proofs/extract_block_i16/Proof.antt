@@ -23,13 +23,39 @@ loop-holds : tie.Need-loop-holds Inv-loop μ-loop
 loop-holds c = (omega arith, block-none _ _ _ _ _ _ _)
 
 mul-a : tie.Need-mul-a Inv-loop μ-loop
-mul-a c = let s = c .before .before .before .before .before in record { fits = omega (arith, cells-fit nzℤ (s .args .cells .now) _ _ _ _ _ _ _ (s .pre) (c .before .before .loop .i) (c .before .loop-test .taken), s .good) }
+mul-a c =
+    let s = c .before .before .before .before .before in
+    record {
+      fits = omega (
+        arith,
+        cells-fit nzℤ (s .args .cells .now) _ _ _ _ _ _ _ (s .pre) (c .before .before .loop .i) (c .before .loop-test .taken),
+        s .good,
+      );
+    }
 
 add-e : tie.Need-add-e Inv-loop μ-loop
-add-e c = let s = c .before .before .before .before .before .before in record { fits = omega (arith, cells-fit nzℤ (s .args .cells .now) _ _ _ _ _ _ _ (s .pre) (c .before .before .before .loop .i) (c .before .before .loop-test .taken), s .good) }
+add-e c =
+    let s = c .before .before .before .before .before .before in
+    record {
+      fits = omega (
+        arith,
+        cells-fit nzℤ (s .args .cells .now) _ _ _ _ _ _ _ (s .pre) (c .before .before .before .loop .i)
+            (c .before .before .loop-test .taken),
+        s .good,
+      );
+    }
 
 mul-extract-line-i16 : tie.Need-mul-extract-line-i16 Inv-loop μ-loop
-mul-extract-line-i16 c = let s = c .before .before .before .before .before .before in record { fits = omega (arith, cells-fit nzℤ (s .args .cells .now) _ _ _ _ _ _ _ (s .pre) (c .before .before .before .loop .i) (c .before .before .loop-test .taken), s .good) }
+mul-extract-line-i16 c =
+    let s = c .before .before .before .before .before .before in
+    record {
+      fits = omega (
+        arith,
+        cells-fit nzℤ (s .args .cells .now) _ _ _ _ _ _ _ (s .pre) (c .before .before .before .loop .i)
+            (c .before .before .loop-test .taken),
+        s .good,
+      );
+    }
 
 sub-extract-line-i16 : tie.Need-sub-extract-line-i16 Inv-loop μ-loop
 sub-extract-line-i16 c = omega arith
@@ -38,34 +64,43 @@ part-extract-line-i16-start : tie.Need-part-extract-line-i16-start Inv-loop μ-l
 part-extract-line-i16-start c = search needs
 
 part-extract-line-i16-end : tie.Need-part-extract-line-i16-end Inv-loop μ-loop
-part-extract-line-i16-end c = let s = c .before .before .before .before .before .before in omega (arith, cells-fit nzℤ (s .args .cells .now) _ _ _ _ _ _ _ (s .pre) (c .before .before .before .loop .i) (c .before .before .loop-test .taken))
+part-extract-line-i16-end c =
+    let s = c .before .before .before .before .before .before in
+    omega (
+      arith,
+      cells-fit nzℤ (s .args .cells .now) _ _ _ _ _ _ _ (s .pre) (c .before .before .before .loop .i) (c .before .before .loop-test .taken),
+    )
 
 mul-extract-line-i16-2 : tie.Need-mul-extract-line-i16-2 Inv-loop μ-loop
 mul-extract-line-i16-2 c =
     let s = c .before .before .before .before .before .before .before .before in
     let l = c .before .before .before .before .before .loop in
-    let r = block-room nzℤ (s .args .cells .now) _ _ _ _ _ _ _ (s .pre) (l .i) (c .before .before .before .before .loop-test .taken) (l .words) (l .count) (l .inv .1) in
+    let r = block-room nzℤ (s .args .cells .now) _ _ _ _ _ _ _ (s .pre) (l .i) (c .before .before .before .before .loop-test .taken)
+    (l .words) (l .count) (l .inv .1) in
     record { fits = omega (arith, r .room, l .inv .1 .long, s .good) }
 
 add-extract-line-i16 : tie.Need-add-extract-line-i16 Inv-loop μ-loop
 add-extract-line-i16 c =
     let s = c .before .before .before .before .before .before .before .before in
     let l = c .before .before .before .before .before .loop in
-    let r = block-room nzℤ (s .args .cells .now) _ _ _ _ _ _ _ (s .pre) (l .i) (c .before .before .before .before .loop-test .taken) (l .words) (l .count) (l .inv .1) in
+    let r = block-room nzℤ (s .args .cells .now) _ _ _ _ _ _ _ (s .pre) (l .i) (c .before .before .before .before .loop-test .taken)
+    (l .words) (l .count) (l .inv .1) in
     record { fits = omega (arith, r .room, l .inv .1 .long, s .good) }
 
 extract-line-i16-requires : tie.Need-extract-line-i16-requires Inv-loop μ-loop
 extract-line-i16-requires c κs =
     let s = c .before .before .before .before .before .before .before .before in
     let l = c .before .before .before .before .before .loop in
-    block-room nzℤ (s .args .cells .now) _ _ _ _ _ _ _ (s .pre) (l .i) (c .before .before .before .before .loop-test .taken) (l .words) (l .count) (l .inv .1)
+    block-room nzℤ (s .args .cells .now) _ _ _ _ _ _ _ (s .pre) (l .i) (c .before .before .before .before .loop-test .taken) (l .words)
+    (l .count) (l .inv .1)
 
 add-count : tie.Need-add-count Inv-loop μ-loop
 add-count c =
     let s = c .before .before .before .before .before .before .before .before .before .before .before in
     let l = c .before .before .before .before .before .before .before .before .loop in
     let t = c .before .before .before .before .before .before .before .loop-test .taken in
-    let u = block-small nzℤ (s .args .cells .now) _ _ _ _ _ _ _ (s .pre) (l .i) t (l .words) (l .count) (l .inv .1) _ _ (c .before .before .extract-line-i16 .ensures) in
+    let u = block-small nzℤ (s .args .cells .now) _ _ _ _ _ _ _ (s .pre) (l .i) t (l .words) (l .count) (l .inv .1) _ _
+    (c .before .before .extract-line-i16 .ensures) in
     record { fits = omega (arith, u) }
 
 cast-words : tie.Need-cast-words Inv-loop μ-loop
@@ -73,7 +108,10 @@ cast-words c =
     let s = c .before .before .before .before .before .before .before .before .before .before .before in
     let l = c .before .before .before .before .before .before .before .before .loop in
     let t = c .before .before .before .before .before .before .before .loop-test .taken in
-    record { fits = block-small nzℤ (s .args .cells .now) _ _ _ _ _ _ _ (s .pre) (l .i) t (l .words) (l .count) (l .inv .1) _ _ (c .before .before .extract-line-i16 .ensures) }
+    record {
+      fits = block-small nzℤ (s .args .cells .now) _ _ _ _ _ _ _ (s .pre) (l .i) t (l .words) (l .count) (l .inv .1) _ _
+          (c .before .before .extract-line-i16 .ensures);
+    }
 
 add-words : tie.Need-add-words Inv-loop μ-loop
 add-words c = search needs
@@ -97,8 +135,11 @@ loop-again : tie.Need-loop-again Inv-loop μ-loop
 loop-again c =
     let s = c .before .before .before .before .before .before .before .before .before .before .before in
     let l = c .before .before .before .before .before .before .before .before .loop in
-    let t = c .before .before .before .before .before .before .before .loop-test .taken in
-    (omega (arith, t), block-then nzℤ (s .args .cells .now) _ _ _ _ _ _ _ (s .pre) (l .i) t (l .words) (l .count) (l .inv .1) _ _ (c .before .before .extract-line-i16 .ensures))
+    let t = c .before .before .before .before .before .before .before .loop-test .taken in (
+      omega (arith, t),
+      block-then nzℤ (s .args .cells .now) _ _ _ _ _ _ _ (s .pre) (l .i) t (l .words) (l .count) (l .inv .1) _ _
+          (c .before .before .extract-line-i16 .ensures),
+    )
 
 same-length : tie.Need-same-length Inv-loop μ-loop
 same-length c = c .before .loop .inv .1 .long

@@ -23,10 +23,27 @@ loop-holds : tie.Need-loop-holds Inv-loop μ-loop
 loop-holds c = (omega arith, block-none _ _ _ _ _ _ _)
 
 mul-a : tie.Need-mul-a Inv-loop μ-loop
-mul-a c = let s = c .before .before .before .before .before .before in record { fits = omega (arith, cells-fit nz (s .args .cells .now) _ _ _ _ _ _ _ (s .pre) (c .before .before .loop .i) (c .before .loop-test .taken), s .good) }
+mul-a c =
+    let s = c .before .before .before .before .before .before in
+    record {
+      fits = omega (
+        arith,
+        cells-fit nz (s .args .cells .now) _ _ _ _ _ _ _ (s .pre) (c .before .before .loop .i) (c .before .loop-test .taken),
+        s .good,
+      );
+    }
 
 add-e : tie.Need-add-e Inv-loop μ-loop
-add-e c = let s = c .before .before .before .before .before .before .before in record { fits = omega (arith, cells-fit nz (s .args .cells .now) _ _ _ _ _ _ _ (s .pre) (c .before .before .before .loop .i) (c .before .before .loop-test .taken), s .good) }
+add-e c =
+    let s = c .before .before .before .before .before .before .before in
+    record {
+      fits = omega (
+        arith,
+        cells-fit nz (s .args .cells .now) _ _ _ _ _ _ _ (s .pre) (c .before .before .before .loop .i)
+            (c .before .before .loop-test .taken),
+        s .good,
+      );
+    }
 
 sub-extract-line-u8 : tie.Need-sub-extract-line-u8 Inv-loop μ-loop
 sub-extract-line-u8 c = omega arith
@@ -35,34 +52,43 @@ part-extract-line-u8-start : tie.Need-part-extract-line-u8-start Inv-loop μ-loo
 part-extract-line-u8-start c = search needs
 
 part-extract-line-u8-end : tie.Need-part-extract-line-u8-end Inv-loop μ-loop
-part-extract-line-u8-end c = let s = c .before .before .before .before .before .before .before in omega (arith, cells-fit nz (s .args .cells .now) _ _ _ _ _ _ _ (s .pre) (c .before .before .before .loop .i) (c .before .before .loop-test .taken))
+part-extract-line-u8-end c =
+    let s = c .before .before .before .before .before .before .before in
+    omega (
+      arith,
+      cells-fit nz (s .args .cells .now) _ _ _ _ _ _ _ (s .pre) (c .before .before .before .loop .i) (c .before .before .loop-test .taken),
+    )
 
 mul-extract-line-u8 : tie.Need-mul-extract-line-u8 Inv-loop μ-loop
 mul-extract-line-u8 c =
     let s = c .before .before .before .before .before .before .before .before .before in
     let l = c .before .before .before .before .before .loop in
-    let r = block-room nz (s .args .cells .now) _ _ _ _ _ _ _ (s .pre) (l .i) (c .before .before .before .before .loop-test .taken) (l .words) (l .count) (l .inv .1) in
+    let r = block-room nz (s .args .cells .now) _ _ _ _ _ _ _ (s .pre) (l .i) (c .before .before .before .before .loop-test .taken)
+    (l .words) (l .count) (l .inv .1) in
     record { fits = omega (arith, r .room, l .inv .1 .long, s .good) }
 
 add-extract-line-u8 : tie.Need-add-extract-line-u8 Inv-loop μ-loop
 add-extract-line-u8 c =
     let s = c .before .before .before .before .before .before .before .before .before in
     let l = c .before .before .before .before .before .loop in
-    let r = block-room nz (s .args .cells .now) _ _ _ _ _ _ _ (s .pre) (l .i) (c .before .before .before .before .loop-test .taken) (l .words) (l .count) (l .inv .1) in
+    let r = block-room nz (s .args .cells .now) _ _ _ _ _ _ _ (s .pre) (l .i) (c .before .before .before .before .loop-test .taken)
+    (l .words) (l .count) (l .inv .1) in
     record { fits = omega (arith, r .room, l .inv .1 .long, s .good) }
 
 extract-line-u8-requires : tie.Need-extract-line-u8-requires Inv-loop μ-loop
 extract-line-u8-requires c κs =
     let s = c .before .before .before .before .before .before .before .before .before in
     let l = c .before .before .before .before .before .loop in
-    block-room nz (s .args .cells .now) _ _ _ _ _ _ _ (s .pre) (l .i) (c .before .before .before .before .loop-test .taken) (l .words) (l .count) (l .inv .1)
+    block-room nz (s .args .cells .now) _ _ _ _ _ _ _ (s .pre) (l .i) (c .before .before .before .before .loop-test .taken) (l .words)
+    (l .count) (l .inv .1)
 
 add-count : tie.Need-add-count Inv-loop μ-loop
 add-count c =
     let s = c .before .before .before .before .before .before .before .before .before .before .before .before in
     let l = c .before .before .before .before .before .before .before .before .loop in
     let t = c .before .before .before .before .before .before .before .loop-test .taken in
-    let u = block-small nz (s .args .cells .now) _ _ _ _ _ _ _ (s .pre) (l .i) t (l .words) (l .count) (l .inv .1) _ _ (c .before .before .extract-line-u8 .ensures) in
+    let u = block-small nz (s .args .cells .now) _ _ _ _ _ _ _ (s .pre) (l .i) t (l .words) (l .count) (l .inv .1) _ _
+    (c .before .before .extract-line-u8 .ensures) in
     record { fits = omega (arith, u) }
 
 cast-words : tie.Need-cast-words Inv-loop μ-loop
@@ -70,7 +96,10 @@ cast-words c =
     let s = c .before .before .before .before .before .before .before .before .before .before .before .before in
     let l = c .before .before .before .before .before .before .before .before .loop in
     let t = c .before .before .before .before .before .before .before .loop-test .taken in
-    record { fits = block-small nz (s .args .cells .now) _ _ _ _ _ _ _ (s .pre) (l .i) t (l .words) (l .count) (l .inv .1) _ _ (c .before .before .extract-line-u8 .ensures) }
+    record {
+      fits = block-small nz (s .args .cells .now) _ _ _ _ _ _ _ (s .pre) (l .i) t (l .words) (l .count) (l .inv .1) _ _
+          (c .before .before .extract-line-u8 .ensures);
+    }
 
 add-words : tie.Need-add-words Inv-loop μ-loop
 add-words c = search needs
@@ -94,8 +123,11 @@ loop-again : tie.Need-loop-again Inv-loop μ-loop
 loop-again c =
     let s = c .before .before .before .before .before .before .before .before .before .before .before .before in
     let l = c .before .before .before .before .before .before .before .before .loop in
-    let t = c .before .before .before .before .before .before .before .loop-test .taken in
-    (omega (arith, t), block-then nz (s .args .cells .now) _ _ _ _ _ _ _ (s .pre) (l .i) t (l .words) (l .count) (l .inv .1) _ _ (c .before .before .extract-line-u8 .ensures))
+    let t = c .before .before .before .before .before .before .before .loop-test .taken in (
+      omega (arith, t),
+      block-then nz (s .args .cells .now) _ _ _ _ _ _ _ (s .pre) (l .i) t (l .words) (l .count) (l .inv .1) _ _
+          (c .before .before .extract-line-u8 .ensures),
+    )
 
 same-length : tie.Need-same-length Inv-loop μ-loop
 same-length c = c .before .loop .inv .1 .long

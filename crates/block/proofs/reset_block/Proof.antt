@@ -45,8 +45,13 @@ part-reset-end c = search needs
 
 reset-requires : tie.Need-reset-requires
 reset-requires c κs =
-    let s = c .before .before .before .before in
-    (reset-room (s .args .lines) (s .args .words .now) (s .args .fed) (s .args .k) (s .pre), omega (arith, c .before .slice-known3 .given (s .args .fed + s .args .k)))
+    let s = c .before .before .before .before in (
+      reset-room (s .args .lines) (s .args .words .now) (s .args .fed) (s .args .k) (s .pre),
+      omega (
+        arith,
+        c .before .slice-known3 .given (s .args .fed + s .args .k),
+      ),
+    )
 
 same-length : tie.Need-same-length
 same-length c = search needs
@@ -54,7 +59,8 @@ same-length c = search needs
 returns : tie.Need-returns
 returns c =
     let s = c .before .before .before .before .before .before .before in
-    reset-back (s .args .lines) (s .args .words .now) (s .args .fed) (s .args .k) (s .pre) (c .before .before .reset .last .0) (c .before .before .reset .ensures)
+    reset-back (s .args .lines) (s .args .words .now) (s .args .fed) (s .args .k) (s .pre) (c .before .before .reset .last .0)
+    (c .before .before .reset .ensures)
 
 pub reset-block-spec : {M : Type 1} → statement M
 reset-block-spec =

@@ -1,4 +1,5 @@
--- `union_block` meets its contract. The loop's invariant: the first `done` lines are united, and the runs of the others are their own parents.
+-- `union_block` meets its contract. The loop's invariant: the first `done` lines are united, and the runs of the others are their own
+-- parents.
 -- Assumes nothing.
 use Prim.Native.Nat.{_+_, _-_, _≤_}
 use native.Mathlib.Omega.{arith}
@@ -11,7 +12,8 @@ use Rattle.block.proofs.union_block.Statement.{statement}
 use Rattle.block.proofs.union_block.Tie as tie
 
 abbrev Inv-loop : tie.InvT-loop
-Inv-loop words₀ g structure fed k joins₀ done₀ words joins done = (done ≤ k) × Going (g .leads) (g .dims) (g .lines) structure words₀ fed (fed + k - 1) done words joins
+Inv-loop words₀ g structure fed k joins₀ done₀ words joins done =
+    (done ≤ k) × Going (g .leads) (g .dims) (g .lines) structure words₀ fed (fed + k - 1) done words joins
 
 abbrev μ-loop : tie.MeasureT-loop
 μ-loop words₀ g structure fed k joins₀ done₀ words joins done = k - done
@@ -30,8 +32,11 @@ loop-holds : tie.Need-loop-holds Inv-loop μ-loop
 loop-holds c =
     let x = c .before .before in
     let s = x .before .before .before .before .before in
-    let r = reset-ready (s .args .g) _ _ _ _ (s .pre) _ (x .reset-block .ensures) (omega (arith, x .before .before .if1 .left)) in
-    (omega arith, going-none (s .args .g) _ _ _ _ r (three s) (reset-own (s .args .g) _ _ _ _ (s .pre) _ (x .reset-block .ensures) (omega (arith, x .before .before .if1 .left))))
+    let r = reset-ready (s .args .g) _ _ _ _ (s .pre) _ (x .reset-block .ensures) (omega (arith, x .before .before .if1 .left)) in (
+      omega arith,
+      going-none (s .args .g) _ _ _ _ r (three s)
+          (reset-own (s .args .g) _ _ _ _ (s .pre) _ (x .reset-block .ensures) (omega (arith, x .before .before .if1 .left))),
+    )
 
 add-union-line : tie.Need-add-union-line Inv-loop μ-loop
 add-union-line c = search needs
@@ -42,22 +47,31 @@ union-line-requires c κs =
     let s = x .before .before .before .before .before in
     let r = reset-ready (s .args .g) _ _ _ _ (s .pre) _ (x .reset-block .ensures) (omega (arith, x .before .before .if1 .left)) in
     let l = c .before .before .loop in
-    going-ready (s .args .g) _ _ _ _ r (three s) (l .done) (omega (arith, c .before .loop-test .taken, x .before .before .if1 .left)) (l .words) (l .joins) (l .inv .1) (omega (arith, c .before .loop-test .taken))
+    going-ready (s .args .g) _ _ _ _ r (three s) (l .done) (omega (arith, c .before .loop-test .taken, x .before .before .if1 .left))
+    (l .words) (l .joins) (l .inv .1) (omega (arith, c .before .loop-test .taken))
 
 loop-again : tie.Need-loop-again Inv-loop μ-loop
 loop-again c =
     let x = c .before .before .before .before .before .before .before .before in
     let s = x .before .before .before .before .before in
     let r = reset-ready (s .args .g) _ _ _ _ (s .pre) _ (x .reset-block .ensures) (omega (arith, x .before .before .if1 .left)) in
-    let l = c .before .before .before .before .before .loop in
-    (omega (arith, c .before .before .before .before .loop-test .taken), going-then (s .args .g) _ _ _ _ r (three s) (l .done) (omega (arith, c .before .before .before .before .loop-test .taken, x .before .before .if1 .left)) (l .words) (l .joins) (l .inv .1) (omega (arith, c .before .before .before .before .loop-test .taken)) _ _ (c .before .before .union-line .ensures))
+    let l = c .before .before .before .before .before .loop in (
+      omega (arith, c .before .before .before .before .loop-test .taken),
+      going-then (s .args .g) _ _ _ _ r (three s) (l .done)
+          (omega (arith, c .before .before .before .before .loop-test .taken, x .before .before .if1 .left)) (l .words) (l .joins)
+          (l .inv .1)
+          (omega (arith, c .before .before .before .before .loop-test .taken)) _ _ (c .before .before .union-line .ensures),
+    )
 
 add-joins : tie.Need-add-joins Inv-loop μ-loop
 add-joins c =
     let x = c .before .before .before .before .before .before .before .before in
     let s = x .before .before .before .before .before in
     let r = reset-ready (s .args .g) _ _ _ _ (s .pre) _ (x .reset-block .ensures) (omega (arith, x .before .before .if1 .left)) in
-    let few = going-few (s .args .g) _ _ _ _ r (three s) (c .before .before .before .before .before .loop .done + 1) (omega (arith, c .before .before .before .before .loop-test .taken)) _ _ (loop-again c .1) in
+    let few = going-few (s .args .g) _ _ _ _ r (three s) (c .before .before .before .before .before .loop .done + 1) (omega (
+      arith,
+      c .before .before .before .before .loop-test .taken,
+    )) _ _ (loop-again c .1) in
     record { fits = omega (arith, few, r .lines .room, x .reset-block .ensures .long, s .good) }
 
 add-done : tie.Need-add-done Inv-loop μ-loop
@@ -70,7 +84,9 @@ united : tie.Need-returns-2 Inv-loop μ-loop
 united c =
     let x = c .before .before .before .before in
     let l = c .before .loop in
-    block-united (x .before .before .before .before .before .args .g) _ _ _ _ (x .before .before .before .before .before .pre) _ (x .reset-block .ensures) (omega (arith, x .before .before .if1 .left)) (three (x .before .before .before .before .before)) (l .done) (l .inv .0) (c .loop-test .left) (l .words) (l .joins) (l .inv .1)
+    block-united (x .before .before .before .before .before .args .g) _ _ _ _ (x .before .before .before .before .before .pre) _
+    (x .reset-block .ensures) (omega (arith, x .before .before .if1 .left)) (three (x .before .before .before .before .before)) (l .done)
+    (l .inv .0) (c .loop-test .left) (l .words) (l .joins) (l .inv .1)
 
 same-length : tie.Need-same-length Inv-loop μ-loop
 same-length c = united c .long

@@ -13,7 +13,8 @@ use Rattle.caller.proofs.call_list.Tie as tie
 
 abbrev Inv-loop : tie.InvT-loop
 Inv-loop words₀ list u8s u16s i16s f32s out8₀ out16₀ out32₀ answers₀ g₀ i₀ words out8 out16 out32 answers g i =
-    Reached (lentOf u8s u16s i16s f32s (roomsOf out8₀ out16₀ out32₀)) list (standing g₀ words₀ (roomsOf out8₀ out16₀ out32₀) answers₀) (standing g words (roomsOf out8 out16 out32) answers) i
+    Reached (lentOf u8s u16s i16s f32s (roomsOf out8₀ out16₀ out32₀)) list (standing g₀ words₀ (roomsOf out8₀ out16₀ out32₀) answers₀)
+    (standing g words (roomsOf out8 out16 out32) answers) i
 
 abbrev μ-loop : tie.MeasureT-loop
 μ-loop words₀ list u8s u16s i16s f32s out8₀ out16₀ out32₀ answers₀ g₀ i₀ words out8 out16 out32 answers g i = length list - i
@@ -31,18 +32,57 @@ make-call-requires : tie.Need-make-call-requires Inv-loop μ-loop
 make-call-requires c κs = tt
 
 add-i : tie.Need-add-i Inv-loop μ-loop
-add-i c = let u = c .before .before .before .before .before .before .before .before .before .before .before .before .before .before .before .before .before .before .loop .inv .upto in let t = c .before .before .before .before .before .before .before .before .before .before .before .before .before .before .before .before .before .loop-test .taken in record { fits = omega (arith, c .before .before .before .before .before .before .before .before .before .before .before .before .before .before .before .before .before .before .before .before .before .before .before .before .before .before .before .before .good) }
+add-i c =
+    let u =
+    c .before .before .before .before .before .before .before .before .before .before .before .before .before .before .before .before
+    .before .before .loop .inv .upto in
+    let t =
+    c .before .before .before .before .before .before .before .before .before .before .before .before .before .before .before .before
+    .before .loop-test .taken in
+    record {
+      fits = omega (
+        arith,
+        c .before .before .before .before .before .before .before .before .before .before .before .before .before .before .before .before
+            .before .before .before .before .before .before .before .before .before .before .before .before .good,
+      );
+    }
 
 loop-less : tie.Need-loop-less Inv-loop μ-loop
-loop-less c = let u = c .before .before .before .before .before .before .before .before .before .before .before .before .before .before .before .before .before .before .loop .inv .upto in let t = c .before .before .before .before .before .before .before .before .before .before .before .before .before .before .before .before .before .loop-test .taken in omega arith
+loop-less c =
+    let u =
+    c .before .before .before .before .before .before .before .before .before .before .before .before .before .before .before .before
+    .before .before .loop .inv .upto in
+    let t =
+    c .before .before .before .before .before .before .before .before .before .before .before .before .before .before .before .before
+    .before .loop-test .taken in
+    omega arith
 
 loop-again : tie.Need-loop-again Inv-loop μ-loop
 loop-again c =
-    let h = c .before .before .before .before .before .before .before .before .before .before .before .before .before .before .before .before .before .before .loop in
-    let s = c .before .before .before .before .before .before .before .before .before .before .before .before .before .before .before .before .before .before .before .before .before .before .before .before .before .before .before .before .args in
-    let e = c .before .before .before .before .before .before .before .before .before .before .before .before .before .before .before .before .four-at in
-    reached-next (h .inv) (c .before .before .before .before .before .before .before .before .before .before .before .before .before .before .before .before .before .loop-test .taken) (entry-lent (now (s .u8s)) (now (s .u16s)) (now (s .i16s)) (now (s .f32s)) (now (s .list)) (h .i) (e .result) (e .ensures) (h .inv .long) (c .before .before .before .before .before .before .before .before .before .before .make-call .ensures))
-    (record { words = c .before .before .before .before .before .before .before .before .before .words .given; room8 = c .before .before .before .before .before .before .before .out8 .given; room16 = c .before .before .before .before .before .out16 .given; room32 = c .before .before .before .out32 .given; answers = c .before .answers .given })
+    let h =
+    c .before .before .before .before .before .before .before .before .before .before .before .before .before .before .before .before
+    .before .before .loop in
+    let s =
+    c .before .before .before .before .before .before .before .before .before .before .before .before .before .before .before .before
+    .before .before .before .before .before .before .before .before .before .before .before .before .args in
+    let e =
+    c .before .before .before .before .before .before .before .before .before .before .before .before .before .before .before .before
+    .four-at in
+    reached-next (h .inv)
+    (c .before .before .before .before .before .before .before .before .before .before .before .before .before .before .before .before
+    .before .loop-test .taken) (entry-lent (now (s .u8s)) (now (s .u16s)) (now (s .i16s)) (now (s .f32s)) (now (s .list)) (h .i)
+    (e .result) (e .ensures) (h .inv .long)
+    (c .before .before .before .before .before .before .before .before .before .before .make-call .ensures))
+    (record {
+      words = c .before .before .before .before .before .before .before .before .before .words .given;
+      room8 =
+          c .before .before .before .before .before .before .before .out8 .given;
+      room16 =
+          c .before .before .before .before .before .out16 .given;
+      room32 =
+          c .before .before .before .out32 .given;
+      answers = c .before .answers .given;
+    })
 
 no-call-requires : tie.Need-no-call-requires Inv-loop μ-loop
 no-call-requires c κs = tt
@@ -65,7 +105,8 @@ same-length-5 c = c .before .answers2 .given ∙ c .before .before .before .befo
 returns : tie.Need-returns Inv-loop μ-loop
 returns c =
     let h = c .before .before .before .before .before .before .loop in
-    reached-few (h .inv) (c .before .before .before .before .if1 .taken) (c .before .before .before .before .before .loop-test .left) (c .before .before .no-call .ensures (h .words) (roomsOf (h .out8) (h .out16) (h .out32)))
+    reached-few (h .inv) (c .before .before .before .before .if1 .taken) (c .before .before .before .before .before .loop-test .left)
+    (c .before .before .no-call .ensures (h .words) (roomsOf (h .out8) (h .out16) (h .out32)))
 
 same-length-6 : tie.Need-same-length-6 Inv-loop μ-loop
 same-length-6 c = c .before .before .loop .inv .long .words

@@ -25,7 +25,8 @@ returns-5 : tie.Need-returns-5
 returns-5 c =
     let a = c .before .args in
     let r = c .match .rest in
-    sym (List·getD-eq-default (a .n0 ∷ a .n1 ∷ a .n2 ∷ a .n3 ∷ []) 0 (past 3 (past 2 (past 1 (past 0 zero-le (r .0 .0 .0 .1)) (r .0 .0 .1)) (r .0 .1)) (r .1)))
+    sym (List·getD-eq-default (a .n0 ∷ a .n1 ∷ a .n2 ∷ a .n3 ∷ []) 0
+    (past 3 (past 2 (past 1 (past 0 zero-le (r .0 .0 .0 .1)) (r .0 .0 .1)) (r .0 .1)) (r .1)))
 
 pub cells-lent-spec : {M : Type 1} → statement M
 cells-lent-spec = tie.close (tie.spec returns returns-2 returns-3 returns-4 returns-5)

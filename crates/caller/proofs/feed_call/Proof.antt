@@ -26,18 +26,34 @@ same-length c = c .before .answers .given
 returns : tie.Need-returns
 returns c rooms =
     let s = c .before .before .before .before .before .before .before .before .before .before .before .before .args in
-    let none = ap (leb (s .e .b + s .e .c)) (sym (c .before .before .before .before .before .before .cells-lent .ensures)) ∙ sym (c .before .before .before .before .before .is-part .ensures) ∙ not-true _ (c .before .before .before .before .if1 .taken) in
-    steps-as (feed-none (lentOf (now (s .u8s)) (now (s .u16s)) (now (s .i16s)) (now (s .f32s)) rooms) (s .e .code) (s .e .a) (s .e .b) (s .e .c) (c .before .before .before .before .before .before .before .before .before .before .before .before .pre) none) (c .before .before .no-call .ensures (now (s .words)) rooms)
+    let none = ap (leb (s .e .b + s .e .c)) (sym (c .before .before .before .before .before .before .cells-lent .ensures))
+    ∙ sym (c .before .before .before .before .before .is-part .ensures) ∙ not-true _ (c .before .before .before .before .if1 .taken) in
+    steps-as (feed-none (lentOf (now (s .u8s)) (now (s .u16s)) (now (s .i16s)) (now (s .f32s)) rooms) (s .e .code) (s .e .a) (s .e .b)
+    (s .e .c) (c .before .before .before .before .before .before .before .before .before .before .before .before .pre) none)
+    (c .before .before .no-call .ensures (now (s .words)) rooms)
 
 add-feed-kind : tie.Need-add-feed-kind
 add-feed-kind c =
     let s = c .before .before .before .before .before .before .before .before .before .before .args in
-    record { fits = omega (arith, part-within (s .e .b) (s .e .c) (c .before .before .before .before .cells-lent .result) _ (c .before .before .before .is-part .ensures) (not-false _ (c .before .before .if1 .left))) }
+    record {
+      fits = omega (
+        arith,
+        part-within (s .e .b) (s .e .c) (c .before .before .before .before .cells-lent .result) _
+            (c .before .before .before .is-part .ensures) (not-false _ (c .before .before .if1 .left)),
+      );
+    }
 
 feed-kind-requires : tie.Need-feed-kind-requires
 feed-kind-requires c κs =
     let s = c .before .before .before .before .before .before .before .before .before .before .args in
-    record { code = c .before .before .before .before .before .before .before .before .before .before .pre; ends = refl; within = subst (λ (n : ℕ). s .e .b + s .e .c ≤ n) (c .before .before .before .before .cells-lent .ensures) (part-within (s .e .b) (s .e .c) (c .before .before .before .before .cells-lent .result) _ (c .before .before .before .is-part .ensures) (not-false _ (c .before .before .if1 .left))) }
+    record {
+      code = c .before .before .before .before .before .before .before .before .before .before .pre;
+      ends = refl;
+      within =
+          subst (λ (n : ℕ). s .e .b + s .e .c ≤ n) (c .before .before .before .before .cells-lent .ensures)
+          (part-within (s .e .b) (s .e .c) (c .before .before .before .before .cells-lent .result) _
+          (c .before .before .before .is-part .ensures) (not-false _ (c .before .before .if1 .left)));
+    }
 
 put-fed-requires : tie.Need-put-fed-requires
 put-fed-requires c κs = tt
@@ -49,7 +65,8 @@ same-length-3 : tie.Need-same-length-3
 same-length-3 c = c .before .before .answers2 .given
 
 returns-2 : tie.Need-returns-2
-returns-2 c rooms = step-feeds (c .before .before .before .before .before .before .before .feed-kind .ensures rooms) (c .before .before .before .put-fed .ensures) rooms
+returns-2 c rooms = step-feeds (c .before .before .before .before .before .before .before .feed-kind .ensures rooms)
+    (c .before .before .before .put-fed .ensures) rooms
 
 pub feed-call-spec : {M : Type 1} → statement M
 feed-call-spec =

@@ -25,7 +25,13 @@ feed-u8-requires : tie.Need-feed-u8-requires
 feed-u8-requires c κs = tt
 
 mul-feed-u16 : tie.Need-mul-feed-u16
-mul-feed-u16 c = record { fits = omega (arith, feed-room (c .before .before .before .before .before .before .pre) 1 (c .before .match .keys2), c .before .before .before .before .before .before .pre .ends) }
+mul-feed-u16 c = record {
+  fits = omega (
+    arith,
+    feed-room (c .before .before .before .before .before .before .pre) 1 (c .before .match .keys2),
+    c .before .before .before .before .before .before .pre .ends,
+  );
+}
 
 sub-feed-u16 : tie.Need-sub-feed-u16
 sub-feed-u16 c = search needs
@@ -40,7 +46,13 @@ feed-u16-requires : tie.Need-feed-u16-requires
 feed-u16-requires c κs = tt
 
 mul-feed-i16 : tie.Need-mul-feed-i16
-mul-feed-i16 c = record { fits = omega (arith, feed-room (c .before .before .before .before .before .before .pre) 2 (c .before .match .keys3), c .before .before .before .before .before .before .pre .ends) }
+mul-feed-i16 c = record {
+  fits = omega (
+    arith,
+    feed-room (c .before .before .before .before .before .before .pre) 2 (c .before .match .keys3),
+    c .before .before .before .before .before .before .pre .ends,
+  );
+}
 
 sub-feed-i16 : tie.Need-sub-feed-i16
 sub-feed-i16 c = search needs
@@ -55,7 +67,14 @@ feed-i16-requires : tie.Need-feed-i16-requires
 feed-i16-requires c κs = tt
 
 mul-feed-f32 : tie.Need-mul-feed-f32
-mul-feed-f32 c = record { fits = omega (arith, feed-room (c .before .before .before .before .before .before .pre) 3 (three (c .before .match .rest) (c .before .before .before .before .before .before .pre .code)), c .before .before .before .before .before .before .pre .ends) }
+mul-feed-f32 c = record {
+  fits = omega (
+    arith,
+    feed-room (c .before .before .before .before .before .before .pre) 3
+        (three (c .before .match .rest) (c .before .before .before .before .before .before .pre .code)),
+    c .before .before .before .before .before .before .pre .ends,
+  );
+}
 
 sub-feed-f32 : tie.Need-sub-feed-f32
 sub-feed-f32 c = search needs
@@ -64,7 +83,8 @@ part-feed-f32-start : tie.Need-part-feed-f32-start
 part-feed-f32-start c = search needs
 
 part-feed-f32-end : tie.Need-part-feed-f32-end
-part-feed-f32-end c = feed-room (c .before .before .before .before .before .before .pre) 3 (three (c .before .match .rest) (c .before .before .before .before .before .before .pre .code))
+part-feed-f32-end c = feed-room (c .before .before .before .before .before .before .pre) 3
+    (three (c .before .match .rest) (c .before .before .before .before .before .before .pre .code))
 
 feed-f32-requires : tie.Need-feed-f32-requires
 feed-f32-requires c κs = tt
@@ -77,7 +97,10 @@ unfolding entryOf flags
 returns c rooms =
     let s = c .before .before .before .before .before .before .before .before .before .before .args in
     let p = c .before .before .before .before .before .before .before .before .before .before .pre in
-    feed-made u8s (now (s .u8s)) (s .e .a) (s .e .b) (s .e .c) (p .ends) (feed-room (p) 0 (c .before .before .before .before .before .match .keys1)) (ap (λ (code : ℕ). entryOf (lentOf (now (s .u8s)) (now (s .u16s)) (now (s .i16s)) (now (s .f32s)) rooms) code (s .e .a) (s .e .b) (s .e .c)) (c .before .before .before .before .before .match .keys1)) (c .before .before .feed-u8 .ensures)
+    feed-made u8s (now (s .u8s)) (s .e .a) (s .e .b) (s .e .c) (p .ends)
+    (feed-room (p) 0 (c .before .before .before .before .before .match .keys1))
+    (ap (λ (code : ℕ). entryOf (lentOf (now (s .u8s)) (now (s .u16s)) (now (s .i16s)) (now (s .f32s)) rooms) code (s .e .a) (s .e .b)
+    (s .e .c)) (c .before .before .before .before .before .match .keys1)) (c .before .before .feed-u8 .ensures)
 
 same-length-2 : tie.Need-same-length-2
 same-length-2 c = c .before .words2 .given
@@ -87,7 +110,10 @@ unfolding entryOf flags
 returns-2 c rooms =
     let s = c .before .before .before .before .before .before .before .before .before .before .args in
     let p = c .before .before .before .before .before .before .before .before .before .before .pre in
-    feed-made u16s (now (s .u16s)) (s .e .a) (s .e .b) (s .e .c) (p .ends) (feed-room (p) 1 (c .before .before .before .before .before .match .keys2)) (ap (λ (code : ℕ). entryOf (lentOf (now (s .u8s)) (now (s .u16s)) (now (s .i16s)) (now (s .f32s)) rooms) code (s .e .a) (s .e .b) (s .e .c)) (c .before .before .before .before .before .match .keys2)) (c .before .before .feed-u16 .ensures)
+    feed-made u16s (now (s .u16s)) (s .e .a) (s .e .b) (s .e .c) (p .ends)
+    (feed-room (p) 1 (c .before .before .before .before .before .match .keys2))
+    (ap (λ (code : ℕ). entryOf (lentOf (now (s .u8s)) (now (s .u16s)) (now (s .i16s)) (now (s .f32s)) rooms) code (s .e .a) (s .e .b)
+    (s .e .c)) (c .before .before .before .before .before .match .keys2)) (c .before .before .feed-u16 .ensures)
 
 same-length-3 : tie.Need-same-length-3
 same-length-3 c = c .before .words3 .given
@@ -97,7 +123,10 @@ unfolding entryOf flags
 returns-3 c rooms =
     let s = c .before .before .before .before .before .before .before .before .before .before .args in
     let p = c .before .before .before .before .before .before .before .before .before .before .pre in
-    feed-made i16s (now (s .i16s)) (s .e .a) (s .e .b) (s .e .c) (p .ends) (feed-room (p) 2 (c .before .before .before .before .before .match .keys3)) (ap (λ (code : ℕ). entryOf (lentOf (now (s .u8s)) (now (s .u16s)) (now (s .i16s)) (now (s .f32s)) rooms) code (s .e .a) (s .e .b) (s .e .c)) (c .before .before .before .before .before .match .keys3)) (c .before .before .feed-i16 .ensures)
+    feed-made i16s (now (s .i16s)) (s .e .a) (s .e .b) (s .e .c) (p .ends)
+    (feed-room (p) 2 (c .before .before .before .before .before .match .keys3))
+    (ap (λ (code : ℕ). entryOf (lentOf (now (s .u8s)) (now (s .u16s)) (now (s .i16s)) (now (s .f32s)) rooms) code (s .e .a) (s .e .b)
+    (s .e .c)) (c .before .before .before .before .before .match .keys3)) (c .before .before .feed-i16 .ensures)
 
 same-length-4 : tie.Need-same-length-4
 same-length-4 c = c .before .words4 .given
@@ -107,7 +136,10 @@ unfolding entryOf flags
 returns-4 c rooms =
     let s = c .before .before .before .before .before .before .before .before .before .before .args in
     let p = c .before .before .before .before .before .before .before .before .before .before .pre in
-    feed-made f32s (now (s .f32s)) (s .e .a) (s .e .b) (s .e .c) (p .ends) (feed-room (p) 3 (three (c .before .before .before .before .before .match .rest) (p .code))) (ap (λ (code : ℕ). entryOf (lentOf (now (s .u8s)) (now (s .u16s)) (now (s .i16s)) (now (s .f32s)) rooms) code (s .e .a) (s .e .b) (s .e .c)) (three (c .before .before .before .before .before .match .rest) (p .code))) (c .before .before .feed-f32 .ensures)
+    feed-made f32s (now (s .f32s)) (s .e .a) (s .e .b) (s .e .c) (p .ends)
+    (feed-room (p) 3 (three (c .before .before .before .before .before .match .rest) (p .code)))
+    (ap (λ (code : ℕ). entryOf (lentOf (now (s .u8s)) (now (s .u16s)) (now (s .i16s)) (now (s .f32s)) rooms) code (s .e .a) (s .e .b)
+    (s .e .c)) (three (c .before .before .before .before .before .match .rest) (p .code))) (c .before .before .feed-f32 .ensures)
 
 pub feed-kind-spec : {M : Type 1} → statement M
 feed-kind-spec =

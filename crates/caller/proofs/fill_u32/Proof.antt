@@ -33,7 +33,8 @@ add-i c = search needs
 
 loop-less : tie.Need-loop-less Inv-loop μ-loop
 loop-less c =
-    let n = ap length (c .before .loop .inv .1) ∙ length-overlay (replicate (c .before .loop .i) (c .before .before .args .v)) (now (c .before .before .args .out)) in
+    let n = ap length (c .before .loop .inv .1)
+    ∙ length-overlay (replicate (c .before .loop .i) (c .before .before .args .v)) (now (c .before .before .args .out)) in
     omega arith
 
 loop-again : tie.Need-loop-again Inv-loop μ-loop

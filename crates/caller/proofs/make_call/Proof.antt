@@ -17,7 +17,11 @@ same-length-2 : tie.Need-same-length-2
 same-length-2 c = c .before .answers .given
 
 returns : tie.Need-returns
-returns c = let s = c .before .before .before .before .before .before .before .before .before .before .before .before .before .before .before .before .args in c .before .before .before .before .feed-call .ensures (roomsOf (now (s .out8)) (now (s .out16)) (now (s .out32)))
+returns c =
+    let s =
+    c .before .before .before .before .before .before .before .before .before .before .before .before .before .before .before .before
+    .args in
+    c .before .before .before .before .feed-call .ensures (roomsOf (now (s .out8)) (now (s .out16)) (now (s .out32)))
 
 read-call-u8-requires : tie.Need-read-call-u8-requires
 read-call-u8-requires c κs = tt
@@ -46,8 +50,13 @@ same-length-5 c = c .before .answers2 .given
 returns-2 : tie.Need-returns-2
 unfolding entryOf
 returns-2 c =
-    let s = c .before .before .before .before .before .before .before .before .before .before .before .before .before .before .before .before .before .before .before .before .args in
-    entry-is (lentOf (now (s .u8s)) (now (s .u16s)) (now (s .i16s)) (now (s .f32s)) (roomsOf (now (s .out8)) (now (s .out16)) (now (s .out32)))) (s .e .a) (s .e .b) (s .e .c) (s .e .code) 4 (c .before .before .before .before .before .before .before .before .before .before .match .keys1) (c .before .before .before .before .before .before .read-call-u8 .ensures (now (s .out16)) (now (s .out32)))
+    let s =
+    c .before .before .before .before .before .before .before .before .before .before .before .before .before .before .before .before
+    .before .before .before .before .args in
+    entry-is (lentOf (now (s .u8s)) (now (s .u16s)) (now (s .i16s)) (now (s .f32s))
+    (roomsOf (now (s .out8)) (now (s .out16)) (now (s .out32)))) (s .e .a) (s .e .b) (s .e .c) (s .e .code) 4
+    (c .before .before .before .before .before .before .before .before .before .before .match .keys1)
+    (c .before .before .before .before .before .before .read-call-u8 .ensures (now (s .out16)) (now (s .out32)))
 
 same-length-6 : tie.Need-same-length-6
 same-length-6 c = c .before .before .before .before .before .words3 .given
@@ -61,8 +70,13 @@ same-length-8 c = c .before .answers3 .given
 returns-3 : tie.Need-returns-3
 unfolding entryOf
 returns-3 c =
-    let s = c .before .before .before .before .before .before .before .before .before .before .before .before .before .before .before .before .before .before .before .before .args in
-    entry-is (lentOf (now (s .u8s)) (now (s .u16s)) (now (s .i16s)) (now (s .f32s)) (roomsOf (now (s .out8)) (now (s .out16)) (now (s .out32)))) (s .e .a) (s .e .b) (s .e .c) (s .e .code) 5 (c .before .before .before .before .before .before .before .before .before .before .match .keys2) (c .before .before .before .before .before .before .read-call-u16 .ensures (now (s .out8)) (now (s .out32)))
+    let s =
+    c .before .before .before .before .before .before .before .before .before .before .before .before .before .before .before .before
+    .before .before .before .before .args in
+    entry-is (lentOf (now (s .u8s)) (now (s .u16s)) (now (s .i16s)) (now (s .f32s))
+    (roomsOf (now (s .out8)) (now (s .out16)) (now (s .out32)))) (s .e .a) (s .e .b) (s .e .c) (s .e .code) 5
+    (c .before .before .before .before .before .before .before .before .before .before .match .keys2)
+    (c .before .before .before .before .before .before .read-call-u16 .ensures (now (s .out8)) (now (s .out32)))
 
 same-length-9 : tie.Need-same-length-9
 same-length-9 c = c .before .before .before .before .before .words4 .given
@@ -76,8 +90,13 @@ same-length-11 c = c .before .answers4 .given
 returns-4 : tie.Need-returns-4
 unfolding entryOf
 returns-4 c =
-    let s = c .before .before .before .before .before .before .before .before .before .before .before .before .before .before .before .before .before .before .before .before .args in
-    entry-is (lentOf (now (s .u8s)) (now (s .u16s)) (now (s .i16s)) (now (s .f32s)) (roomsOf (now (s .out8)) (now (s .out16)) (now (s .out32)))) (s .e .a) (s .e .b) (s .e .c) (s .e .code) 6 (c .before .before .before .before .before .before .before .before .before .before .match .keys3) (c .before .before .before .before .before .before .read-call-u32 .ensures (now (s .out8)) (now (s .out16)))
+    let s =
+    c .before .before .before .before .before .before .before .before .before .before .before .before .before .before .before .before
+    .before .before .before .before .args in
+    entry-is (lentOf (now (s .u8s)) (now (s .u16s)) (now (s .i16s)) (now (s .f32s))
+    (roomsOf (now (s .out8)) (now (s .out16)) (now (s .out32)))) (s .e .a) (s .e .b) (s .e .c) (s .e .code) 6
+    (c .before .before .before .before .before .before .before .before .before .before .match .keys3)
+    (c .before .before .before .before .before .before .read-call-u32 .ensures (now (s .out8)) (now (s .out16)))
 
 same-length-12 : tie.Need-same-length-12
 same-length-12 c = c .before .before .before .before .before .words5 .given
@@ -91,8 +110,13 @@ same-length-14 c = c .before .answers5 .given
 returns-5 : tie.Need-returns-5
 unfolding entryOf
 returns-5 c =
-    let s = c .before .before .before .before .before .before .before .before .before .before .before .before .before .before .before .before .before .before .before .before .args in
-    entry-is (lentOf (now (s .u8s)) (now (s .u16s)) (now (s .i16s)) (now (s .f32s)) (roomsOf (now (s .out8)) (now (s .out16)) (now (s .out32)))) (s .e .a) (s .e .b) (s .e .c) (s .e .code) 7 (c .before .before .before .before .before .before .before .before .before .before .match .keys4) (c .before .before .before .before .before .before .sizes-call .ensures (now (s .out8)) (now (s .out16)))
+    let s =
+    c .before .before .before .before .before .before .before .before .before .before .before .before .before .before .before .before
+    .before .before .before .before .args in
+    entry-is (lentOf (now (s .u8s)) (now (s .u16s)) (now (s .i16s)) (now (s .f32s))
+    (roomsOf (now (s .out8)) (now (s .out16)) (now (s .out32)))) (s .e .a) (s .e .b) (s .e .c) (s .e .code) 7
+    (c .before .before .before .before .before .before .before .before .before .before .match .keys4)
+    (c .before .before .before .before .before .before .sizes-call .ensures (now (s .out8)) (now (s .out16)))
 
 same-length-15 : tie.Need-same-length-15
 same-length-15 c = c .before .answers6 .given
@@ -101,7 +125,8 @@ returns-6 : tie.Need-returns-6
 returns-6 c =
     let s = c .before .before .before .before .before .before .before .before .before .before .before .before .before .before .args in
     let r = c .before .before .before .before .match .rest in
-    entry-none (lentOf (now (s .u8s)) (now (s .u16s)) (now (s .i16s)) (now (s .f32s)) (roomsOf (now (s .out8)) (now (s .out16)) (now (s .out32)))) (s .e .a) (s .e .b) (s .e .c) (s .e .code)
+    entry-none (lentOf (now (s .u8s)) (now (s .u16s)) (now (s .i16s)) (now (s .f32s))
+    (roomsOf (now (s .out8)) (now (s .out16)) (now (s .out32)))) (s .e .a) (s .e .b) (s .e .c) (s .e .code)
     (past 7 (past 6 (past 5 (past 4 (c .before .before .before .before .before .if1 .left) (r .0 .0 .0 .1)) (r .0 .0 .1)) (r .0 .1)) (r .1))
     (c .before .before .no-call .ensures (now (s .words)) (roomsOf (now (s .out8)) (now (s .out16)) (now (s .out32))))
 

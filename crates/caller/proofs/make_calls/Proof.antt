@@ -29,7 +29,10 @@ call-list-requires : tie.Need-call-list-requires
 call-list-requires c κs = tt
 
 same-length-2 : tie.Need-same-length-2
-same-length-2 c = c .before .before .before .before .before .before .before .before .before .words2 .given ∙ c .before .before .before .before .before .before .before .before .before .before .before .before .before .before .before .before .before .before .before .words .given
+same-length-2 c =
+    c .before .before .before .before .before .before .before .before .before .words2 .given
+    ∙ c .before .before .before .before .before .before .before .before .before .before .before .before .before .before .before .before
+    .before .before .before .words .given
 
 same-length-3 : tie.Need-same-length-3
 same-length-3 c = c .before .before .before .before .before .before .before .out8 .given
@@ -44,7 +47,12 @@ same-length-6 : tie.Need-same-length-6
 same-length-6 c = c .before .answers .given
 
 returns-2 : tie.Need-returns-2
-returns-2 c = made-accepted (c .before .before .before .before .before .before .before .before .before .before .before .before .before .before .before .before .before .before .before .before .«open» .ensures) _ _ _ _ (ap openNumber (c .before .before .before .before .before .before .before .before .before .before .before .before .before .before .before .before .enum-told2 .given .1)) (c .before .before .before .before .before .before .before .before .before .before .call-list .ensures)
+returns-2 c = made-accepted
+    (c .before .before .before .before .before .before .before .before .before .before .before .before .before .before .before .before
+    .before .before .before .before .«open» .ensures) _ _ _ _
+    (ap openNumber
+    (c .before .before .before .before .before .before .before .before .before .before .before .before .before .before .before .before
+    .enum-told2 .given .1)) (c .before .before .before .before .before .before .before .before .before .before .call-list .ensures)
 
 pub make-calls-spec : {M : Type 1} → statement M
 make-calls-spec =

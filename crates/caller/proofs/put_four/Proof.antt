@@ -18,10 +18,17 @@ put-requires-4 : tie.Need-put-requires-4
 put-requires-4 c κs = tt
 
 same-length : tie.Need-same-length
-same-length c = c .before .answers4 .given ∙ c .before .before .before .before .before .answers3 .given ∙ c .before .before .before .before .before .before .before .before .before .answers2 .given ∙ c .before .before .before .before .before .before .before .before .before .before .before .before .before .answers .given
+same-length c =
+    c .before .answers4 .given ∙ c .before .before .before .before .before .answers3 .given
+    ∙ c .before .before .before .before .before .before .before .before .before .answers2 .given
+    ∙ c .before .before .before .before .before .before .before .before .before .before .before .before .before .answers .given
 
 returns : tie.Need-returns
-returns c = let b = c .before .before in adds-then (b .before .before .before .before .before .before .before .before .before .before .before .before .put .ensures) (adds-then (b .before .before .before .before .before .before .before .before .put2 .ensures) (adds-then (b .before .before .before .before .put3 .ensures) (b .put4 .ensures)))
+returns c =
+    let b = c .before .before in
+    adds-then (b .before .before .before .before .before .before .before .before .before .before .before .before .put .ensures)
+    (adds-then (b .before .before .before .before .before .before .before .before .put2 .ensures)
+    (adds-then (b .before .before .before .before .put3 .ensures) (b .put4 .ensures)))
 
 pub put-four-spec : {M : Type 1} → statement M
 put-four-spec =

@@ -32,7 +32,8 @@ same-length-2 : tie.Need-same-length-2
 same-length-2 c = c .before .answers2 .given
 
 returns-2 : tie.Need-returns-2
-returns-2 c = rw (c .before .before .before .before .before .before .answer2 .given .1, ← c .before .before .before .number .ensures) (c .before .before .put-number .ensures)
+returns-2 c = rw (c .before .before .before .before .before .before .answer2 .given .1, ← c .before .before .before .number .ensures)
+    (c .before .before .put-number .ensures)
 
 pub put-read-spec : {M : Type 1} → statement M
 put-read-spec =

@@ -21,7 +21,8 @@ same-length c = c .before .answers .given
 returns : tie.Need-returns
 returns c room8 room32 =
     let s = c .before .before .before .before .before .before .before .before .args in
-    read-out (now (s .room)) (s .e .a) (s .e .b) u16 (c .before .before .before .before .if1 .taken) (c .before .before .no-call .ensures (now (s .words)) (roomsOf room8 (now (s .room)) room32))
+    read-out (now (s .room)) (s .e .a) (s .e .b) u16 (c .before .before .before .before .if1 .taken)
+    (c .before .before .no-call .ensures (now (s .words)) (roomsOf room8 (now (s .room)) room32))
 
 cast-read-u16 : tie.Need-cast-read-u16
 cast-read-u16 c = search needs
@@ -48,10 +49,14 @@ same-length-4 c = c .before .answers2 .given
 
 returns-2 : tie.Need-returns-2
 returns-2 c room8 room32 =
-    let s = c .before .before .before .before .before .before .before .before .before .before .before .before .before .before .before .args in
+    let s =
+    c .before .before .before .before .before .before .before .before .before .before .before .before .before .before .before .args in
     let h = c .before .before .before .before .before .before .before .before .before .before .before .if1 .left in
-    let back = room-back (now (s .room)) (s .e .a) h (c .before .before .before .before .before .before .read-u16 .last .1 .1 .1 .0) (c .before .before .before .room .given .0) in
-    read-in (now (s .room)) (s .e .a) (s .e .b) u16 h (steps-rooms (ap (λ (o : List ℕ). roomsOf room8 o room32) back) (c .before .before .before .before .before .before .read-u16 .ensures (roomsOf room8 (now (s .room)) room32)))
+    let back = room-back (now (s .room)) (s .e .a) h (c .before .before .before .before .before .before .read-u16 .last .1 .1 .1 .0)
+    (c .before .before .before .room .given .0) in
+    read-in (now (s .room)) (s .e .a) (s .e .b) u16 h
+    (steps-rooms (ap (λ (o : List ℕ). roomsOf room8 o room32) back)
+    (c .before .before .before .before .before .before .read-u16 .ensures (roomsOf room8 (now (s .room)) room32)))
 
 pub read-call-u16-spec : {M : Type 1} → statement M
 read-call-u16-spec =

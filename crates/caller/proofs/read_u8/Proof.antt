@@ -22,13 +22,19 @@ same-length : tie.Need-same-length
 same-length c = c .before .before .before .before .before .before .before .before .before .before .before .before .before .words .given
 
 same-length-2 : tie.Need-same-length-2
-same-length-2 c = c .before .before .before .before .before .before .before .before .before .before .before .out2 .given ∙ c .before .before .before .before .before .before .before .before .before .before .before .before .before .before .before .before .before .before .out .given
+same-length-2 c =
+    c .before .before .before .before .before .before .before .before .before .before .before .out2 .given
+    ∙ c .before .before .before .before .before .before .before .before .before .before .before .before .before .before .before .before
+    .before .before .out .given
 
 same-length-3 : tie.Need-same-length-3
 same-length-3 c = c .before .before .answers2 .given ∙ c .before .before .before .before .before .before .before .answers .given
 
 returns : tie.Need-returns
-returns c = step-read (c .before .before .before .before .before .before .before .before .put-read .ensures) u8 (c .before .before .before .before .before .before .before .before .before .before .before .before .before .before .read-u8 .ensures) (c .before .before .before .before .before .before .before .before .before .before .before .before .before .before .before .before .before .before .before .fill-u8 .ensures) (c .before .before .before .put-u8 .ensures)
+returns c = step-read (c .before .before .before .before .before .before .before .before .put-read .ensures) u8
+    (c .before .before .before .before .before .before .before .before .before .before .before .before .before .before .read-u8 .ensures)
+    (c .before .before .before .before .before .before .before .before .before .before .before .before .before .before .before .before
+    .before .before .before .fill-u8 .ensures) (c .before .before .before .put-u8 .ensures)
 
 pub read-u8-spec : {M : Type 1} → statement M
 read-u8-spec =

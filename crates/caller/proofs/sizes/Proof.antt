@@ -21,13 +21,19 @@ same-length : tie.Need-same-length
 same-length c = c .before .before .before .before .before .before .before .before .before .before .before .before .before .words .given
 
 same-length-2 : tie.Need-same-length-2
-same-length-2 c = c .before .before .before .before .before .before .before .before .before .before .before .out2 .given ∙ c .before .before .before .before .before .before .before .before .before .before .before .before .before .before .before .before .before .before .out .given
+same-length-2 c =
+    c .before .before .before .before .before .before .before .before .before .before .before .out2 .given
+    ∙ c .before .before .before .before .before .before .before .before .before .before .before .before .before .before .before .before
+    .before .before .out .given
 
 same-length-3 : tie.Need-same-length-3
 same-length-3 c = c .before .before .answers2 .given ∙ c .before .before .before .before .before .before .before .answers .given
 
 returns : tie.Need-returns
-returns c = step-sizes (c .before .before .before .before .before .before .before .before .put-read .ensures) (c .before .before .before .before .before .before .before .before .before .before .before .before .before .before .sizes .ensures) (c .before .before .before .before .before .before .before .before .before .before .before .before .before .before .before .before .before .before .before .fill-u32 .ensures) (c .before .before .before .put-u32 .ensures)
+returns c = step-sizes (c .before .before .before .before .before .before .before .before .put-read .ensures)
+    (c .before .before .before .before .before .before .before .before .before .before .before .before .before .before .sizes .ensures)
+    (c .before .before .before .before .before .before .before .before .before .before .before .before .before .before .before .before
+    .before .before .before .fill-u32 .ensures) (c .before .before .before .put-u32 .ensures)
 
 pub sizes-spec : {M : Type 1} → statement M
 sizes-spec =

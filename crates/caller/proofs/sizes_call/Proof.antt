@@ -20,7 +20,8 @@ same-length c = c .before .answers .given
 returns : tie.Need-returns
 returns c room8 room16 =
     let s = c .before .before .before .before .before .before .before .before .args in
-    sizes-out (now (s .room)) (s .e .a) (s .e .b) (c .before .before .before .before .if1 .taken) (c .before .before .no-call .ensures (now (s .words)) (roomsOf room8 room16 (now (s .room))))
+    sizes-out (now (s .room)) (s .e .a) (s .e .b) (c .before .before .before .before .if1 .taken)
+    (c .before .before .no-call .ensures (now (s .words)) (roomsOf room8 room16 (now (s .room))))
 
 cast-sizes : tie.Need-cast-sizes
 cast-sizes c = search needs
@@ -47,10 +48,14 @@ same-length-4 c = c .before .answers2 .given
 
 returns-2 : tie.Need-returns-2
 returns-2 c room8 room16 =
-    let s = c .before .before .before .before .before .before .before .before .before .before .before .before .before .before .before .args in
+    let s =
+    c .before .before .before .before .before .before .before .before .before .before .before .before .before .before .before .args in
     let h = c .before .before .before .before .before .before .before .before .before .before .before .if1 .left in
-    let back = room-back (now (s .room)) (s .e .a) h (c .before .before .before .before .before .before .sizes .last .1 .1 .1 .0) (c .before .before .before .room .given .0) in
-    sizes-in (now (s .room)) (s .e .a) (s .e .b) h (steps-rooms (ap (λ (o : List ℕ). roomsOf room8 room16 o) back) (c .before .before .before .before .before .before .sizes .ensures (roomsOf room8 room16 (now (s .room)))))
+    let back = room-back (now (s .room)) (s .e .a) h (c .before .before .before .before .before .before .sizes .last .1 .1 .1 .0)
+    (c .before .before .before .room .given .0) in
+    sizes-in (now (s .room)) (s .e .a) (s .e .b) h
+    (steps-rooms (ap (λ (o : List ℕ). roomsOf room8 room16 o) back)
+    (c .before .before .before .before .before .before .sizes .ensures (roomsOf room8 room16 (now (s .room)))))
 
 pub sizes-call-spec : {M : Type 1} → statement M
 sizes-call-spec =

@@ -16,16 +16,33 @@ failed-requires : tie.Need-failed-requires
 failed-requires c κs = search needs
 
 returns : tie.Need-returns
-returns c = let s = c .before .before .before .before .before in frame-gets-open (now (s .args .shape)) (now (s .args .structure)) (s .args .memory) (s .args .cells) (s .args .out) _ (c .before .before .open-check .ensures) (failed-some _ _ (c .before .failed .ensures) (c .if1 .taken))
+returns c =
+    let s = c .before .before .before .before .before in
+    frame-gets-open (now (s .args .shape)) (now (s .args .structure)) (s .args .memory) (s .args .cells) (s .args .out) _
+    (c .before .before .open-check .ensures) (failed-some _ _ (c .before .failed .ensures) (c .if1 .taken))
 
 mul-if2 : tie.Need-mul-if2
-mul-if2 c = let s = c .before .before .before .before .before .before .before in record { fits = omega (arith, frame-small (now (s .args .shape)) (now (s .args .structure)) (s .args .memory) (s .args .cells) (s .args .out) _ (c .before .before .before .before .open-check .ensures) (passed-none _ _ (c .before .before .before .failed .ensures) (c .before .before .if1 .left))) }
+mul-if2 c =
+    let s = c .before .before .before .before .before .before .before in
+    record {
+      fits = omega (
+        arith,
+        frame-small (now (s .args .shape)) (now (s .args .structure)) (s .args .memory) (s .args .cells) (s .args .out) _
+            (c .before .before .before .before .open-check .ensures)
+            (passed-none _ _ (c .before .before .before .failed .ensures) (c .before .before .if1 .left)),
+      );
+    }
 
 refused-requires : tie.Need-refused-requires
 refused-requires c κs = search needs
 
 returns-2 : tie.Need-returns-2
-returns-2 c = let s = c .before .before .before .before .before .before .before .before .before in found-cause _ _ _ 8 _ _ (omega arith) (frame-gets-8 (now (s .args .shape)) (now (s .args .structure)) (s .args .memory) (s .args .cells) (s .args .out) _ (c .before .before .before .before .before .before .open-check .ensures) (passed-none _ _ (c .before .before .before .before .before .failed .ensures) (c .before .before .before .before .if1 .left)) (c .before .if2 .taken)) (c .refused .ensures)
+returns-2 c =
+    let s = c .before .before .before .before .before .before .before .before .before in
+    found-cause _ _ _ 8 _ _ (omega arith) (frame-gets-8 (now (s .args .shape)) (now (s .args .structure)) (s .args .memory) (s .args .cells)
+    (s .args .out) _ (c .before .before .before .before .before .before .open-check .ensures)
+    (passed-none _ _ (c .before .before .before .before .before .failed .ensures) (c .before .before .before .before .if1 .left))
+    (c .before .if2 .taken)) (c .refused .ensures)
 
 mul-if3 : tie.Need-mul-if3
 mul-if3 c = search needs
@@ -34,10 +51,21 @@ refused-requires-2 : tie.Need-refused-requires-2
 refused-requires-2 c κs = search needs
 
 returns-3 : tie.Need-returns-3
-returns-3 c = let s = c .before .before .before .before .before .before .before .before .before .before .before in found-cause _ _ _ 9 _ _ (omega arith) (frame-gets-9 (now (s .args .shape)) (now (s .args .structure)) (s .args .memory) (s .args .cells) (s .args .out) _ (c .before .before .before .before .before .before .before .before .open-check .ensures) (passed-none _ _ (c .before .before .before .before .before .before .before .failed .ensures) (c .before .before .before .before .before .before .if1 .left)) (c .before .before .before .if2 .left) (c .before .if3 .taken)) (c .refused2 .ensures)
+returns-3 c =
+    let s = c .before .before .before .before .before .before .before .before .before .before .before in
+    found-cause _ _ _ 9 _ _ (omega arith) (frame-gets-9 (now (s .args .shape)) (now (s .args .structure)) (s .args .memory) (s .args .cells)
+    (s .args .out) _ (c .before .before .before .before .before .before .before .before .open-check .ensures)
+    (passed-none _ _ (c .before .before .before .before .before .before .before .failed .ensures)
+    (c .before .before .before .before .before .before .if1 .left)) (c .before .before .before .if2 .left) (c .before .if3 .taken))
+    (c .refused2 .ensures)
 
 returns-4 : tie.Need-returns-4
-returns-4 c = let s = c .before .before .before .before .before .before .before .before .before .before in frame-found (now (s .args .shape)) (now (s .args .structure)) (s .args .memory) (s .args .cells) (s .args .out) _ (c .before .before .before .before .before .before .before .open-check .ensures) (passed-none _ _ (c .before .before .before .before .before .before .failed .ensures) (c .before .before .before .before .before .if1 .left)) (c .before .before .if2 .left) (c .if3 .left)
+returns-4 c =
+    let s = c .before .before .before .before .before .before .before .before .before .before in
+    frame-found (now (s .args .shape)) (now (s .args .structure)) (s .args .memory) (s .args .cells) (s .args .out) _
+    (c .before .before .before .before .before .before .before .open-check .ensures)
+    (passed-none _ _ (c .before .before .before .before .before .before .failed .ensures)
+    (c .before .before .before .before .before .if1 .left)) (c .before .before .if2 .left) (c .if3 .left)
 
 pub frame-check-spec : {M : Type 1} → statement M
 frame-check-spec =

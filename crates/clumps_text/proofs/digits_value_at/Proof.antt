@@ -26,7 +26,9 @@ returns-2 : tie.Need-returns-2
 returns-2 c =
     let s = c .before in
     let t = s .before .before .before .before .before in
-    digits-value-one (t .args .text .now) (t .args .at) (s .before .digit-value .ensures ∙ ap (λ (k : ℕ). k - 48) (s .before .before .byte-at .ensures)) (s .byte-at2 .ensures) (c .if2 .taken)
+    digits-value-one (t .args .text .now) (t .args .at)
+    (s .before .digit-value .ensures ∙ ap (λ (k : ℕ). k - 48) (s .before .before .byte-at .ensures)) (s .byte-at2 .ensures)
+    (c .if2 .taken)
 
 mul-result : tie.Need-mul-result
 mul-result c = search needs
@@ -42,7 +44,9 @@ returns-3 c =
     let s = c .before .before in
     let t = s .before .before .before .before .before in
     ap (λ (k : ℕ). 10 * s .before .digit-value .result + k) (c .digit-value2 .ensures)
-    ∙ digits-value-two (t .args .text .now) (t .args .at) (s .before .digit-value .ensures ∙ ap (λ (k : ℕ). k - 48) (s .before .before .byte-at .ensures)) (s .byte-at2 .ensures) (c .before .if2 .left)
+    ∙ digits-value-two (t .args .text .now) (t .args .at)
+    (s .before .digit-value .ensures ∙ ap (λ (k : ℕ). k - 48) (s .before .before .byte-at .ensures)) (s .byte-at2 .ensures)
+    (c .before .if2 .left)
 
 pub digits-value-at-spec : {M : Type 1} → statement M
 digits-value-at-spec =

@@ -49,7 +49,8 @@ parse-exactly-requires-2 c κs = search needs
 returns-2 : tie.Need-returns-2
 returns-2 c =
     let s = c .before .before .before .before .args in
-    c .parse-exactly2 .ensures ∙ ap (λ (l : List ℕ). parseFrom (s .text .now) (s .place) (parseExactly l)) (two-line (s .v) (omega arith) (omega arith))
+    c .parse-exactly2 .ensures
+    ∙ ap (λ (l : List ℕ). parseFrom (s .text .now) (s .place) (parseExactly l)) (two-line (s .v) (omega arith) (omega arith))
 
 pub parse-decimal-spec : {M : Type 1} → statement M
 parse-decimal-spec =

@@ -9,12 +9,16 @@ use lib.ListN.{length, getD, take, drop, length-drop}
 use lib.Seq.{drop-set-lt}
 use Rattle.clumps_text.specs.Input.{parseFlags}
 use Rattle.clumps_text.specs.Steps.{parseAsBytes}
-use Rattle.clumps_text.proofs.PlaceLaws.{asBytes, as-bytes-short, parse-flags-none, parse-flags-turn, parse-flags-all, some-flag, flag-least, no-flag, from-nowhere, from-at}
+use Rattle.clumps_text.proofs.PlaceLaws.{asBytes, as-bytes-short, parse-flags-none, parse-flags-turn, parse-flags-all, some-flag}
+use Rattle.clumps_text.proofs.PlaceLaws.{flag-least, no-flag, from-nowhere, from-at}
 use Rattle.clumps_text.proofs.parse_flags.Statement.{statement}
 use Rattle.clumps_text.proofs.parse_flags.Tie as tie
 
 abbrev Inv-loop : tie.InvT-loop
-Inv-loop text n out₀ at i₀ out i = (i ≤ n) × ((n ≤ length text - at) × ((length out ≡ length out₀) × ((drop n out ≡ drop n out₀) × (asBytes [] (parseFlags n (drop at text)) ≡ asBytes (take i out) (parseFlags (n - i) (drop (at + i) text))))))
+Inv-loop text n out₀ at i₀ out i = (i ≤ n)
+    × ((n ≤ length text - at) × ((length out ≡ length out₀)
+    × ((drop n out ≡ drop n out₀) × (asBytes [] (parseFlags n (drop at text)) ≡ asBytes (take i out)
+    (parseFlags (n - i) (drop (at + i) text))))))
 
 abbrev μ-loop : tie.MeasureT-loop
 μ-loop text n out₀ at i₀ out i = n - i
@@ -38,16 +42,31 @@ returns-2 : tie.Need-returns-2 Inv-loop μ-loop
 unfolding parseAsBytes
 returns-2 c =
     let s = c .before .before .before .before .before .before .before .args in
-    let p = c .before .before .before .place .given in
-    (refl, from-at (s .text .now) (λ t. asBytes [] (parseFlags (s .n) t)) (p .1) (as-bytes-short (s .n) (drop (p .0 .0) (s .text .now)) (simp length-drop (omega arith))))
+    let p = c .before .before .before .place .given in (
+      refl,
+      from-at (s .text .now) (λ t. asBytes [] (parseFlags (s .n) t)) (p .1)
+          (as-bytes-short (s .n) (drop (p .0 .0) (s .text .now)) (simp length-drop (omega arith))),
+    )
 
 loop-holds : tie.Need-loop-holds Inv-loop μ-loop
 loop-holds c =
     let s = c .before .before .before .before .before .before .before .args in
     let p = c .before .before .before .place .given .0 .0 in
     let z : p ≡ p + 0 = omega arith in
-    let m : s .n ≡ s .n - 0 = omega arith in
-    (omega arith, (omega arith, (refl, (refl, ap (λ (k : ℕ). asBytes [] (parseFlags (s .n) (drop k (s .text .now)))) z ∙ ap (λ (k : ℕ). asBytes [] (parseFlags k (drop (p + 0) (s .text .now)))) m))))
+    let m : s .n ≡ s .n - 0 = omega arith in (
+      omega arith,
+      (
+        omega arith,
+        (
+          refl,
+          (
+            refl,
+            ap (λ (k : ℕ). asBytes [] (parseFlags (s .n) (drop k (s .text .now)))) z
+                ∙ ap (λ (k : ℕ). asBytes [] (parseFlags k (drop (p + 0) (s .text .now)))) m,
+          ),
+        ),
+      ),
+    )
 
 add-b : tie.Need-add-b Inv-loop μ-loop
 add-b c = search needs
@@ -64,8 +83,12 @@ returns-3 c =
     let s = c .before .before .before .before .before .before .before .before .before .before .before .args in
     let p = c .before .before .before .before .before .before .before .place .given in
     let l = c .before .before .before .loop in
-    let o = no-flag (getD (s .text .now) (p .0 .0 + l .i) 0) (c .if2 .taken) in
-    (l .inv .1 .1 .1 .0, from-at (s .text .now) (λ t. asBytes [] (parseFlags (s .n) t)) (p .1) (sym (l .inv .1 .1 .1 .1 ∙ parse-flags-none (s .text .now) (p .0 .0) (s .n) (l .i) (omega arith) (omega arith) (o .0) (o .1) (take (l .i) (l .out)))))
+    let o = no-flag (getD (s .text .now) (p .0 .0 + l .i) 0) (c .if2 .taken) in (
+      l .inv .1 .1 .1 .0,
+      from-at (s .text .now) (λ t. asBytes [] (parseFlags (s .n) t)) (p .1)
+          (sym (l .inv .1 .1 .1 .1 ∙ parse-flags-none (s .text .now) (p .0 .0) (s .n) (l .i) (omega arith) (omega arith) (o .0) (o .1)
+          (take (l .i) (l .out)))),
+    )
 
 sub-out : tie.Need-sub-out Inv-loop μ-loop
 sub-out c =
@@ -89,8 +112,22 @@ loop-again c =
     let s = c .before .before .before .before .before .before .before .before .before .before .before .args in
     let p = c .before .before .before .before .before .before .before .place .given .0 .0 in
     let l = c .before .before .before .loop in
-    let b = getD (s .text .now) (p + l .i) 0 in
-    (search needs, (l .inv .1 .0, (search needs, (drop-set-lt (s .n) (l .out) (l .i) (b - 48) (omega arith) ∙ l .inv .1 .1 .1 .0, l .inv .1 .1 .1 .1 ∙ parse-flags-turn (s .text .now) p (s .n) (l .i) (omega arith) (omega arith) (some-flag b (c .if2 .left)) (l .out) (omega (arith, l .inv .1 .1 .0, c .before .before .before .before .before .before .before .before .before .before .before .pre))))))
+    let b = getD (s .text .now) (p + l .i) 0 in (
+      search needs,
+      (
+        l .inv .1 .0,
+        (
+          search needs,
+          (
+            drop-set-lt (s .n) (l .out) (l .i) (b - 48) (omega arith) ∙ l .inv .1 .1 .1 .0,
+            l .inv .1 .1 .1 .1 ∙ parse-flags-turn (s .text .now) p
+                (s .n) (l .i) (omega arith) (omega arith) (some-flag b (c .if2 .left)) (l .out)
+                (omega
+                (arith, l .inv .1 .1 .0, c .before .before .before .before .before .before .before .before .before .before .before .pre)),
+          ),
+        ),
+      ),
+    )
 
 add-t8 : tie.Need-add-t8 Inv-loop μ-loop
 add-t8 c = search needs
@@ -103,8 +140,11 @@ unfolding parseAsBytes
 returns-4 c =
     let s = c .before .before .before .before .before .before .before .before .before .args in
     let p = c .before .before .before .before .before .place .given in
-    let l = c .before .loop in
-    (l .inv .1 .1 .1 .0, from-at (s .text .now) (λ t. asBytes [] (parseFlags (s .n) t)) (p .1) (sym (l .inv .1 .1 .1 .1 ∙ parse-flags-all (s .text .now) (l .out) (p .0 .0) (s .n) (l .i) (omega arith) (omega arith))))
+    let l = c .before .loop in (
+      l .inv .1 .1 .1 .0,
+      from-at (s .text .now) (λ t. asBytes [] (parseFlags (s .n) t)) (p .1)
+          (sym (l .inv .1 .1 .1 .1 ∙ parse-flags-all (s .text .now) (l .out) (p .0 .0) (s .n) (l .i) (omega arith) (omega arith))),
+    )
 
 pub parse-flags-spec : {M : Type 1} → statement M
 parse-flags-spec =

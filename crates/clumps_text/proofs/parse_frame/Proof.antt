@@ -28,10 +28,21 @@ parse-exactly-requires-2 : tie.Need-parse-exactly-requires-2
 parse-exactly-requires-2 c κs = search needs
 
 mul-parse-flags : tie.Need-mul-parse-flags
-mul-parse-flags c = record { fits = omega (arith, product (c .before .before .before .before .before .before .before .before .before .parse-shape .ensures .most-lines) (c .before .before .before .before .before .before .before .before .before .parse-shape .ensures .most-width)) }
+mul-parse-flags c = record {
+  fits = omega (
+    arith,
+    product (c .before .before .before .before .before .before .before .before .before .parse-shape .ensures .most-lines)
+        (c .before .before .before .before .before .before .before .before .before .parse-shape .ensures .most-width),
+  );
+}
 
 parse-flags-requires : tie.Need-parse-flags-requires
-parse-flags-requires c κs = omega (arith, product (c .before .before .before .before .before .before .before .before .before .before .parse-shape .ensures .most-lines) (c .before .before .before .before .before .before .before .before .before .before .parse-shape .ensures .most-width), c .before .before .before .before .before .before .before .before .before .before .before .before .before .before .pre .1)
+parse-flags-requires c κs = omega (
+  arith,
+  product (c .before .before .before .before .before .before .before .before .before .before .parse-shape .ensures .most-lines)
+      (c .before .before .before .before .before .before .before .before .before .before .parse-shape .ensures .most-width),
+  c .before .before .before .before .before .before .before .before .before .before .before .before .before .before .pre .1,
+)
 
 slice-aggregate-parse-exactly-3 : tie.Need-slice-aggregate-parse-exactly-3
 slice-aggregate-parse-exactly-3 c = search needs
@@ -48,13 +59,24 @@ same-length-2 c = search needs
 returns : tie.Need-returns
 unfolding structureName cellsName
 returns c =
-    let z = c .before .before .before .before .before .before .before .before .before .before .before .before .before .before .before .parse-shape in
+    let z =
+    c .before .before .before .before .before .before .before .before .before .before .before .before .before .before .before
+    .parse-shape in
     let s = c .before .before .before .before .before .before .before .before .before .before .before .parse-structure in
     let f = c .before .before .before .before .parse-flags in
     record {
       most-width = z .ensures .most-width;
       most-lines = z .ensures .most-lines;
-      reads = frame-parsed (c .before .before .before .before .before .before .before .before .before .before .before .before .before .before .before .before .before .before .before .args .text .now) (z .result .next) (c .before .before .before .before .before .before .before .before .before .before .before .before .before .parse-exactly .result) (s .result) (c .before .before .before .before .before .before .before .parse-exactly2 .result) (f .result) (c .parse-exactly3 .result) (z .result .width) (z .result .lines) (s .last .1 .1 .0) (take (z .result .lines * z .result .width) (f .last .1 .1 .1 .0)) (z .ensures .reads) (c .before .before .before .before .before .before .before .before .before .before .before .before .before .parse-exactly .ensures) (s .ensures) (c .before .before .before .before .before .before .before .parse-exactly2 .ensures) (f .ensures .1) (c .parse-exactly3 .ensures);
+      reads = frame-parsed
+          (c .before .before .before .before .before .before .before .before .before .before .before .before .before .before .before .before
+          .before .before .before .args .text .now) (z .result .next)
+          (c .before .before .before .before .before .before .before .before .before .before .before .before .before .parse-exactly
+          .result) (s .result) (c .before .before .before .before .before .before .before .parse-exactly2 .result) (f .result)
+          (c .parse-exactly3 .result) (z .result .width) (z .result .lines) (s .last .1 .1 .0)
+          (take (z .result .lines * z .result .width) (f .last .1 .1 .1 .0)) (z .ensures .reads)
+          (c .before .before .before .before .before .before .before .before .before .before .before .before .before .parse-exactly
+          .ensures) (s .ensures) (c .before .before .before .before .before .before .before .parse-exactly2 .ensures)
+          (f .ensures .1) (c .parse-exactly3 .ensures);
     }
 
 pub parse-frame-spec : {M : Type 1} → statement M

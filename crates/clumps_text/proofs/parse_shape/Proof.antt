@@ -30,7 +30,11 @@ returns c =
     record {
       most-width = c .before .before .before .parse-number .ensures .0;
       most-lines = c .parse-number2 .ensures .0;
-      reads = shape-parsed (c .before .before .before .before .before .before .before .args .text .now) (c .before .before .before .before .parse-exactly .result) (c .before .before .before .parse-number .result .next) (c .before .parse-exactly2 .result) (c .parse-number2 .result .next) (c .before .before .before .parse-number .result .value) (c .parse-number2 .result .value) (c .before .before .before .before .parse-exactly .ensures) (c .before .before .before .parse-number .ensures .1) (c .before .parse-exactly2 .ensures) (c .parse-number2 .ensures .1);
+      reads = shape-parsed (c .before .before .before .before .before .before .before .args .text .now)
+          (c .before .before .before .before .parse-exactly .result) (c .before .before .before .parse-number .result .next)
+          (c .before .parse-exactly2 .result) (c .parse-number2 .result .next) (c .before .before .before .parse-number .result .value)
+          (c .parse-number2 .result .value) (c .before .before .before .before .parse-exactly .ensures)
+          (c .before .before .before .parse-number .ensures .1) (c .before .parse-exactly2 .ensures) (c .parse-number2 .ensures .1);
     }
 
 pub parse-shape-spec : {M : Type 1} → statement M

@@ -35,7 +35,9 @@ returns-2 c =
     let s = c .before .before .before .before .before .before .before .before .before .before in
     let n : length (s .args .structure .now) ≡ 9 = default-nine (s .pre) in
     let f = c .before .before .parse-flags in
-    structure-parsed (s .args .text .now) (f .result) (f .last .1 .1 .1 .0) (c .before .before .before .before .before .before .place .given .1) (c .before .before .before .before .flags-given-at .ensures) (s .pre) (f .kept .1 .1 .1 .0 ∙ n) (f .ensures .0) (f .ensures .1)
+    structure-parsed (s .args .text .now) (f .result) (f .last .1 .1 .1 .0)
+    (c .before .before .before .before .before .before .place .given .1) (c .before .before .before .before .flags-given-at .ensures)
+    (s .pre) (f .kept .1 .1 .1 .0 ∙ n) (f .ensures .0) (f .ensures .1)
 
 pub parse-structure-spec : {M : Type 1} → statement M
 parse-structure-spec =

@@ -36,7 +36,8 @@ returns : tie.Need-returns
 returns c =
     let s = c .before .before .before .before .before .before .before .before .before .args in
     let p = c .before .before .put-labelled-text in
-    subst⁻¹ (λ (a : ReadAnswer). Holds (answerText (readAnswer a) (s .numbers .now)) (s .out .now) (p .last .0) (p .result)) (c .before .before .before .before .before .answer .given .1) (p .ensures)
+    subst⁻¹ (λ (a : ReadAnswer). Holds (answerText (readAnswer a) (s .numbers .now)) (s .out .now) (p .last .0) (p .result))
+    (c .before .before .before .before .before .answer .given .1) (p .ensures)
 
 same-length-2 : tie.Need-same-length-2
 same-length-2 c = search needs
@@ -45,8 +46,10 @@ returns-2 : tie.Need-returns-2
 returns-2 c =
     let s = c .before .before .before .before .before .before .before .before .before .before .args in
     let p = c .before .before .put-refusal in
-    subst⁻¹ (λ (a : ReadAnswer). Holds (answerText (readAnswer a) (s .numbers .now)) (s .out .now) (p .last .0) (p .result)) (c .before .before .before .before .before .before .answer2 .given .1)
-    (subst (λ (k : ℕ). Holds (refusalText k) (s .out .now) (p .last .0) (p .result)) (c .before .before .before .number .ensures) (p .ensures))
+    subst⁻¹ (λ (a : ReadAnswer). Holds (answerText (readAnswer a) (s .numbers .now)) (s .out .now) (p .last .0) (p .result))
+    (c .before .before .before .before .before .before .answer2 .given .1)
+    (subst (λ (k : ℕ). Holds (refusalText k) (s .out .now) (p .last .0) (p .result)) (c .before .before .before .number .ensures)
+    (p .ensures))
 
 pub put-answer-spec : {M : Type 1} → statement M
 put-answer-spec =

@@ -33,14 +33,22 @@ loop-less c = search needs
 
 loop-again : tie.Need-loop-again Inv-loop μ-loop
 loop-again c =
-    let l = c .before .before .before .before .before .before in
-    (search needs, (c .before .before .put .kept .0 ∙ l .loop .inv .1 .0, adds-next (l .before .before .before .args .bytes .now) (l .loop .i) (c .before .before .before .before .before .loop-test .taken) (l .loop .inv .1 .1) (c .before .before .put .ensures)))
+    let l = c .before .before .before .before .before .before in (
+      search needs,
+      (
+        c .before .before .put .kept .0 ∙ l .loop .inv .1 .0,
+        adds-next (l .before .before .before .args .bytes .now)
+            (l .loop .i) (c .before .before .before .before .before .loop-test .taken) (l .loop .inv .1 .1)
+            (c .before .before .put .ensures),
+      ),
+    )
 
 same-length : tie.Need-same-length Inv-loop μ-loop
 same-length c = search needs
 
 returns : tie.Need-returns Inv-loop μ-loop
-returns c = adds-all (c .before .before .before .before .args .bytes .now) (c .before .loop .i) (c .loop-test .left) (c .before .loop .inv .1 .1)
+returns c =
+    adds-all (c .before .before .before .before .args .bytes .now) (c .before .loop .i) (c .loop-test .left) (c .before .loop .inv .1 .1)
 
 pub put-bytes-spec : {M : Type 1} → statement M
 put-bytes-spec =

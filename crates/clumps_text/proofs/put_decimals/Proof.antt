@@ -13,7 +13,9 @@ use Rattle.clumps_text.proofs.put_decimals.Statement.{statement}
 use Rattle.clumps_text.proofs.put_decimals.Tie as tie
 
 abbrev Inv-loop : tie.InvT-loop
-Inv-loop out₀ at numbers to₀ i₀ out to i = (i ≤ length numbers) × ((length out ≡ length out₀) × ((o : List ℕ) (a : ℕ) → Adds (blankBefore (drop i numbers)) out to o a → Adds (blankBefore (drop 1 numbers)) out₀ to₀ o a))
+Inv-loop out₀ at numbers to₀ i₀ out to i = (i ≤ length numbers)
+    × ((length out ≡ length out₀) × ((o : List ℕ) (a : ℕ) → Adds (blankBefore (drop i numbers)) out to o a → Adds
+    (blankBefore (drop 1 numbers)) out₀ to₀ o a))
 
 abbrev μ-loop : tie.MeasureT-loop
 μ-loop out₀ at numbers to₀ i₀ out to i = length numbers - i
@@ -57,8 +59,18 @@ loop-less c = search needs
 loop-again : tie.Need-loop-again Inv-loop μ-loop
 loop-again c =
     let l = c .before .before .before .before .before .before .before .before .before .before .loop in
-    let n = c .before .before .before .before .before .before .before .before .before .before .before .before .before .before .before .before .before .before .before .args .numbers .now in
-    (search needs, (c .before .before .put-decimal2 .kept .0 ∙ (c .before .before .before .before .before .before .before .put .kept .0 ∙ l .inv .1 .0), λ o a p. l .inv .1 .1 o a (blanks-turn n (l .i) (c .before .before .before .before .before .before .before .before .before .loop-test .taken) refl (c .before .before .before .before .before .before .before .put .ensures) (c .before .before .put-decimal2 .ensures) p)))
+    let n =
+    c .before .before .before .before .before .before .before .before .before .before .before .before .before .before .before .before
+    .before .before .before .args .numbers .now in (
+      search needs,
+      (
+        c .before .before .put-decimal2 .kept .0
+            ∙ (c .before .before .before .before .before .before .before .put .kept .0 ∙ l .inv .1 .0),
+        λ o a p. l .inv .1 .1 o a
+            (blanks-turn n (l .i) (c .before .before .before .before .before .before .before .before .before .loop-test .taken) refl
+            (c .before .before .before .before .before .before .before .put .ensures) (c .before .before .put-decimal2 .ensures) p),
+      ),
+    )
 
 same-length : tie.Need-same-length Inv-loop μ-loop
 same-length c = c .before .loop .inv .1 .0 ∙ c .before .before .before .before .put-decimal .kept .0
@@ -67,7 +79,8 @@ returns-2 : tie.Need-returns-2 Inv-loop μ-loop
 returns-2 c =
     let l = c .before .loop in
     let n = c .before .before .before .before .before .before .before .before .before .before .args .numbers .now in
-    decimals-first n (omega arith) refl (c .before .before .before .before .put-decimal .ensures) (l .inv .1 .1 (l .out) (l .to) (blanks-none n (l .i) (c .loop-test .left)))
+    decimals-first n (omega arith) refl (c .before .before .before .before .put-decimal .ensures)
+    (l .inv .1 .1 (l .out) (l .to) (blanks-none n (l .i) (c .loop-test .left)))
 
 pub put-decimals-spec : {M : Type 1} → statement M
 put-decimals-spec =

@@ -44,11 +44,20 @@ same-length c = search needs
 returns : tie.Need-returns
 unfolding labelledText runsName joinsName objectsName labelsName
 returns c =
-    let s = c .before .before .before .before .before .before .before .before .before .before .before .before .before .before .before .before .before .before .before .before .before .before .before .before .before .before .before .before .before .before .args in
+    let s =
+    c .before .before .before .before .before .before .before .before .before .before .before .before .before .before .before .before
+    .before .before .before .before .before .before .before .before .before .before .before .before .before .before .args in
     adds-first
-    (adds-line runsName (decimal (s .figures .runs)) _ (c .before .before .before .before .before .before .before .before .before .before .before .before .before .before .before .before .before .before .before .before .before .before .before .before .before .put-line .ensures)
-    (adds-line joinsName (decimal (s .figures .joins)) _ (c .before .before .before .before .before .before .before .before .before .before .before .before .before .before .before .before .before .before .before .before .put-line2 .ensures)
-    (adds-line objectsName (decimal (s .n)) _ (c .before .before .before .before .before .before .before .before .before .before .before .before .before .before .before .put-line3 .ensures) (adds-then (c .before .before .before .before .before .before .before .before .before .before .put-bytes .ensures) (adds-then (c .before .before .before .before .before .before .put-decimals .ensures) (c .before .before .put .ensures))))))
+    (adds-line runsName (decimal (s .figures .runs)) _
+    (c .before .before .before .before .before .before .before .before .before .before .before .before .before .before .before .before
+    .before .before .before .before .before .before .before .before .before .put-line .ensures)
+    (adds-line joinsName (decimal (s .figures .joins)) _
+    (c .before .before .before .before .before .before .before .before .before .before .before .before .before .before .before .before
+    .before .before .before .before .put-line2 .ensures)
+    (adds-line objectsName (decimal (s .n)) _
+    (c .before .before .before .before .before .before .before .before .before .before .before .before .before .before .before .put-line3
+    .ensures) (adds-then (c .before .before .before .before .before .before .before .before .before .before .put-bytes .ensures)
+    (adds-then (c .before .before .before .before .before .before .put-decimals .ensures) (c .before .before .put .ensures))))))
 
 pub put-labelled-text-spec : {M : Type 1} → statement M
 put-labelled-text-spec =

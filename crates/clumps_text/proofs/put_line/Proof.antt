@@ -18,7 +18,8 @@ same-length : tie.Need-same-length
 same-length c = search needs
 
 returns : tie.Need-returns
-returns c = adds-then (c .before .before .before .before .before .before .before .before .before .before .put-bytes .ensures) (adds-then (c .before .before .before .before .before .before .put-decimal .ensures) (c .before .before .put .ensures))
+returns c = adds-then (c .before .before .before .before .before .before .before .before .before .before .put-bytes .ensures)
+    (adds-then (c .before .before .before .before .before .before .put-decimal .ensures) (c .before .before .put .ensures))
 
 pub put-line-spec : {M : Type 1} → statement M
 put-line-spec =

@@ -32,7 +32,10 @@ slice-aggregate-label-frame-3 c = search needs
 label-frame-requires : tie.Need-label-frame-requires
 label-frame-requires c κs =
     let z = c .before .before .before .before .before .before .before .before .parse-frame in
-    whole-ready (c .before .before .before .before .before .before .before .before .before .before .before .before .before .args .text .now) (z .last .1 .0) (z .last .1 .1 .0) (z .result) (z .ensures) (sym (c .before .before .before .before .before .at-end .ensures) ∙ c .before .before .before .before .if1 .taken) (z .kept .1 .0) (z .kept .1 .1 .0) refl
+    whole-ready (c .before .before .before .before .before .before .before .before .before .before .before .before .before .args .text .now)
+    (z .last .1 .0) (z .last .1 .1 .0) (z .result) (z .ensures)
+    (sym (c .before .before .before .before .before .at-end .ensures) ∙ c .before .before .before .before .if1 .taken) (z .kept .1 .0)
+    (z .kept .1 .1 .0) refl
 
 same-length : tie.Need-same-length
 same-length c = search needs
@@ -40,8 +43,13 @@ same-length c = search needs
 returns : tie.Need-returns
 returns c =
     let z = c .before .before .before .before .before .before .before .before .before .before .before .before .parse-frame in
-    let t = c .before .before .before .before .before .before .before .before .before .before .before .before .before .before .before .before .before .args .text .now in
-    let p = reported t (whole-output t (z .last .1 .0) (z .last .1 .1 .0) (z .result) (z .ensures) (sym (c .before .before .before .before .before .before .before .before .before .at-end .ensures) ∙ c .before .before .before .before .before .before .before .before .if1 .taken)) (c .before .before .before .label-frame .ensures) in
+    let t =
+    c .before .before .before .before .before .before .before .before .before .before .before .before .before .before .before .before
+    .before .args .text .now in
+    let p = reported t (whole-output t (z .last .1 .0) (z .last .1 .1 .0) (z .result) (z .ensures)
+    (sym (c .before .before .before .before .before .before .before .before .before .at-end .ensures)
+    ∙ c .before .before .before .before .before .before .before .before .if1 .taken))
+    (c .before .before .before .label-frame .ensures) in
     (p .now-is, p .place-is)
 
 put-refusal-requires : tie.Need-put-refusal-requires
@@ -54,7 +62,9 @@ returns-2 : tie.Need-returns-2
 returns-2 c =
     let z = c .before .before .before .before .before .before .before .before .parse-frame in
     let t = c .before .before .before .before .before .before .before .before .before .before .before .before .before .args .text .now in
-    let p = reported t (refused-output t (z .last .1 .0) (z .last .1 .1 .0) (z .result) (z .ensures) (sym (c .before .before .before .before .before .at-end .ensures) ∙ c .before .before .before .before .if1 .left)) (c .before .before .put-refusal .ensures) in
+    let p = reported t (refused-output t (z .last .1 .0) (z .last .1 .1 .0) (z .result) (z .ensures)
+    (sym (c .before .before .before .before .before .at-end .ensures) ∙ c .before .before .before .before .if1 .left))
+    (c .before .before .put-refusal .ensures) in
     (p .now-is, p .place-is)
 
 pub report-spec : {M : Type 1} → statement M

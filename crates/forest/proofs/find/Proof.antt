@@ -36,7 +36,8 @@ low c = parents c .low _ (omega (arith, c .loop .inv .0))
 room-up : (c : tie.At-loop Inv-loop μ-loop) → stride * suc (parentIn (c .loop .p) (c .loop .at)) ≤ length (c .loop .p)
 room-up c = omega (arith, room c, low c)
 
-low-up : (c : tie.At-loop Inv-loop μ-loop) → parentIn (c .loop .p) (parentIn (c .loop .p) (c .loop .at)) ≤ parentIn (c .loop .p) (c .loop .at)
+low-up : (c : tie.At-loop Inv-loop μ-loop)
+    → parentIn (c .loop .p) (parentIn (c .loop .p) (c .loop .at)) ≤ parentIn (c .loop .p) (c .loop .at)
 low-up c = parents c .low _ (omega (arith, low c, c .loop .inv .0))
 
 loop-holds : tie.Need-loop-holds Inv-loop μ-loop
@@ -82,7 +83,13 @@ returns : tie.Need-returns Inv-loop μ-loop
 returns c =
     let k = c .before .before .before in
     let l = k .loop in
-    λ n P h. let I = l .inv .1 n P h in record { kept = I .kept; same = I .same; found = sym (root-stays (parentIn (l .p)) _ (c .if1 .taken)) ∙ root-parent (parentIn (l .p)) n (I .kept .low) (l .at) (omega (arith, l .inv .0)) ∙ I .found }
+    λ n P h. let I = l .inv .1 n P h in record {
+      kept = I .kept;
+      same = I .same;
+      found =
+          sym (root-stays (parentIn (l .p)) _ (c .if1 .taken))
+          ∙ root-parent (parentIn (l .p)) n (I .kept .low) (l .at) (omega (arith, l .inv .0)) ∙ I .found;
+    }
 
 cast-p : tie.Need-cast-p Inv-loop μ-loop
 cast-p c =
@@ -106,8 +113,11 @@ loop-less c = let l = c .before .before .before in omega (arith, low l, low-up l
 
 loop-again : tie.Need-loop-again Inv-loop μ-loop
 loop-again c =
-    let l = c .before .before .before in
-    (omega (arith, low l, low-up l, l .loop .inv .0), λ n P h. found-half _ _ n _ _ P (omega (arith, l .loop .inv .0)) (l .loop .inv .1 n P h))
+    let l = c .before .before .before in (
+      omega (arith, low l, low-up l, l .loop .inv .0),
+      λ n P h. found-half _ _ n _ _ P (omega (arith, l .loop .inv .0))
+          (l .loop .inv .1 n P h),
+    )
 
 pub find-spec : {M : Type 1} → statement M
 find-spec =

@@ -39,8 +39,17 @@ loop-less c = omega arith
 
 loop-again : tie.Need-loop-again Inv-loop μ-loop
 loop-again c =
-    let l = c .before .loop .inv in
-    (omega (arith, l .0), (omega (arith, c .loop-test .taken), reset-more _ _ _ _ (l .0) (omega (arith, c .before .before .pre .0, c .loop-test .taken)) (l .1 .1)))
+    let l = c .before .loop .inv in (
+      omega (arith, l .0),
+      (
+        omega (arith, c .loop-test .taken),
+        reset-more _ _ _ _ (l .0) (omega (
+          arith,
+          c .before .before .pre .0,
+          c .loop-test .taken,
+        )) (l .1 .1),
+      ),
+    )
 
 same-length : tie.Need-same-length Inv-loop μ-loop
 same-length c = c .before .loop .inv .1 .1 .long

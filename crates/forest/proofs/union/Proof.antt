@@ -23,22 +23,38 @@ module _ (c : tie.After-find2) (n : ℕ) (P : Parents (start c .args .p .now) n)
   found-b : Found (at-find c .find .last .0) (c .find2 .last .0) n (start c .args .b) (c .find2 .result)
   found-b = c .find2 .ensures n (kept-parents _ _ n P (at-find c .find .ensures n P ha .kept)) hb
 
-  roots : Both (start c .args .p .now) (c .find2 .last .0) n (start c .args .a) (start c .args .b) (at-find c .find .result) (c .find2 .result)
+  roots : Both (start c .args .p .now) (c .find2 .last .0) n (start c .args .a) (start c .args .b) (at-find c .find .result)
+      (c .find2 .result)
   roots = both _ _ _ n _ _ _ _ P ha hb (at-find c .find .ensures n P ha) found-b
 
 -- the room that is asked is that of both runs
-roots-max : (c : tie.After-find2) → Both (start c .args .p .now) (c .find2 .last .0) (suc (max (start c .args .a) (start c .args .b))) (start c .args .a) (start c .args .b) (at-find c .find .result) (c .find2 .result)
+roots-max : (c : tie.After-find2)
+    → Both (start c .args .p .now) (c .find2 .last .0) (suc (max (start c .args .a) (start c .args .b))) (start c .args .a)
+    (start c .args .b) (at-find c .find .result) (c .find2 .result)
 roots-max c = roots c _ (start c .pre) (omega arith) (omega arith)
 
 -- lo and hi are the smaller and the larger root
-is-lo : (c : tie.Joined3) → c .if3 .lo ≡ min (at-find (c .before .before .before .before) .find .result) (c .before .before .before .before .find2 .result)
-is-lo c = elim (c .if3 .came) [ inl w ↦ let t = w .0 .taken in let e = w .1 in omega arith | inr w ↦ let t = w .0 .left in let e = w .1 in omega arith ]
+is-lo : (c : tie.Joined3)
+    → c .if3 .lo ≡ min (at-find (c .before .before .before .before) .find .result) (c .before .before .before .before .find2 .result)
+is-lo c = elim (c .if3 .came) [
+  | inl w ↦ let t = w .0 .taken in let e = w .1 in omega arith
+  | inr w ↦ let t = w .0 .left in let e = w .1 in
+      omega arith
+]
 
-is-hi : (c : tie.Joined4) → c .if4 .hi ≡ max (at-find (c .before .before .before .before .before) .find .result) (c .before .before .before .before .before .find2 .result)
-is-hi c = elim (c .if4 .came) [ inl w ↦ let t = w .0 .taken in let e = w .1 in omega arith | inr w ↦ let t = w .0 .left in let e = w .1 in omega arith ]
+is-hi : (c : tie.Joined4)
+    → c .if4 .hi ≡ max (at-find (c .before .before .before .before .before) .find .result)
+    (c .before .before .before .before .before .find2 .result)
+is-hi c = elim (c .if4 .came) [
+  | inl w ↦ let t = w .0 .taken in let e = w .1 in omega arith
+  | inr w ↦ let t = w .0 .left in let e = w .1 in
+      omega arith
+]
 
 -- hence hi is not above both runs
-hi-low : (c : tie.Joined4) → c .if4 .hi ≤ max (start (c .before .before .before .before .before) .args .a) (start (c .before .before .before .before .before) .args .b)
+hi-low : (c : tie.Joined4)
+    → c .if4 .hi ≤ max (start (c .before .before .before .before .before) .args .a)
+    (start (c .before .before .before .before .before) .args .b)
 hi-low c = let B = roots-max (c .before .before .before .before .before) in omega (arith, is-hi c, B .low-a, B .low-b)
 
 -- the words of both runs are in the slice
@@ -86,16 +102,21 @@ cast-p c =
     omega (arith, is-lo (c .before .before), B .self-a, k .slice-known5 .given (parentAt (at-find (k .before .before) .find .result)))
 
 mul-p : tie.Need-mul-p
-mul-p c = let j = c .before .before in let s = start (j .before .before .before .before .before) in omega (arith, hi-low j, s .pre .room, s .good)
+mul-p c =
+    let j = c .before .before in let s = start (j .before .before .before .before .before) in omega (arith, hi-low j, s .pre .room, s .good)
 
 add-p : tie.Need-add-p
-add-p c = let j = c .before .before in let s = start (j .before .before .before .before .before) in omega (arith, hi-low j, s .pre .room, s .good)
+add-p c =
+    let j = c .before .before in let s = start (j .before .before .before .before .before) in omega (arith, hi-low j, s .pre .room, s .good)
 
 mul-p-2 : tie.Need-mul-p-2
-mul-p-2 c = let j = c .before .before in let s = start (j .before .before .before .before .before) in omega (arith, hi-low j, s .pre .room, s .good)
+mul-p-2 c =
+    let j = c .before .before in let s = start (j .before .before .before .before .before) in omega (arith, hi-low j, s .pre .room, s .good)
 
 slice-write-p : tie.Need-slice-write-p
-slice-write-p c = let j = c .before .before in let f = j .before .before .before .before .before in omega (arith, hi-low j, start f .pre .room, roots-max f .kept .long)
+slice-write-p c =
+    let j = c .before .before in
+    let f = j .before .before .before .before .before in omega (arith, hi-low j, start f .pre .room, roots-max f .kept .long)
 
 -- one root: nothing is stored
 same-length : tie.Need-same-length
@@ -115,7 +136,8 @@ returns-3 c =
     let j = c .before .before in
     let e = j .before .before in
     let f = e .before .before .before in
-    λ n P ha hb. rw (is-lo (j .before), is-hi j) (both-joined _ _ _ n _ _ _ _ P ha hb (at-find f .find .ensures n P ha) (found-b f n P ha hb) (e .if2 .left))
+    λ n P ha hb. rw (is-lo (j .before), is-hi j)
+    (both-joined _ _ _ n _ _ _ _ P ha hb (at-find f .find .ensures n P ha) (found-b f n P ha hb) (e .if2 .left))
 
 pub union-spec : {M : Type 1} → statement M
 union-spec =

@@ -29,7 +29,8 @@ returns : tie.Need-returns
 returns c =
     let s = c .before .before .before .before .before in
     let d = c .before .before .before .leading-dims in
-    measured (s .args .rank) (s .args .shape) (now (s .args .structure)) (s .pre) (d .result) (c .before .before .limited-lines .result) (c .before .last-dim .result) (c .left-byte .result)
+    measured (s .args .rank) (s .args .shape) (now (s .args .structure)) (s .pre) (d .result) (c .before .before .limited-lines .result)
+    (c .before .last-dim .result) (c .left-byte .result)
     (d .ensures) (c .before .before .limited-lines .ensures) (c .before .last-dim .ensures) (c .left-byte .ensures)
 
 pub geo-of-spec : {M : Type 1} → statement M

@@ -25,7 +25,8 @@ product-requires-3 c κs = search needs
 
 returns : tie.Need-returns
 returns c =
-    limited-three 4294967293 (c .before .before .before .args .t1) (c .before .before .product .result) (c .before .product2 .result) (c .product3 .result) (search needs)
+    limited-three 4294967293 (c .before .before .before .args .t1) (c .before .before .product .result) (c .before .product2 .result)
+    (c .product3 .result) (search needs)
     (c .before .before .product .ensures) (c .before .product2 .ensures) (c .product3 .ensures)
 
 pub limited-lines-spec : {M : Type 1} → statement M

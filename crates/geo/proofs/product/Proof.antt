@@ -13,7 +13,12 @@ returns-2 : tie.Need-returns-2
 returns-2 c = product-high 4294967293 (c .before .before .args .a) (c .before .before .args .b) (c .before .if1 .left) (c .if2 .taken)
 
 mul-p : tie.Need-mul-p
-mul-p c = record { fits = omega (arith, product-fits 4294967293 (c .before .before .args .a) (c .before .before .args .b) (c .before .before .pre) (omega arith)) }
+mul-p c = record {
+  fits = omega (
+    arith,
+    product-fits 4294967293 (c .before .before .args .a) (c .before .before .args .b) (c .before .before .pre) (omega arith),
+  );
+}
 
 returns-3 : tie.Need-returns-3
 returns-3 c = search needs

@@ -18,14 +18,16 @@ returns : tie.Need-returns
 returns c =
     let s = c .before .before .before in
     record {
-      told = rank-breaks _ _ (s .args .memory) (s .args .fed) (rank-test (s .args .rank) (s .args .shape) _ _ (c .before .before .bad-rank .ensures) (c .before .if1 .taken));
+      told = rank-breaks _ _ (s .args .memory) (s .args .fed)
+          (rank-test (s .args .rank) (s .args .shape) _ _ (c .before .before .bad-rank .ensures) (c .before .if1 .taken));
       geometry = λ t. absurd (true≢false (sym t));
     }
 
 geo-of-requires : tie.Need-geo-of-requires
 geo-of-requires c κs =
     let s = c .before .before .before in
-    array-ready (s .args .rank) (s .args .shape) (now (s .args .structure)) (search needs) (rank-test (s .args .rank) (s .args .shape) _ _ (c .before .before .bad-rank .ensures) (c .before .if1 .left))
+    array-ready (s .args .rank) (s .args .shape) (now (s .args .structure)) (search needs)
+    (rank-test (s .args .rank) (s .args .shape) _ _ (c .before .before .bad-rank .ensures) (c .before .if1 .left))
 
 has-zero-requires : tie.Need-has-zero-requires
 has-zero-requires c κs = search needs
@@ -36,30 +38,37 @@ too-large-requires c κs = search needs
 returns-2 : tie.Need-returns-2
 returns-2 c =
     let s = c .before .before .before .before .before .before .before in
-    let ranked = rank-test (s .args .rank) (s .args .shape) _ _ (c .before .before .before .before .before .before .bad-rank .ensures) (c .before .before .before .before .before .if1 .left) in
+    let ranked = rank-test (s .args .rank) (s .args .shape) _ _ (c .before .before .before .before .before .before .bad-rank .ensures)
+    (c .before .before .before .before .before .if1 .left) in
     let g = c .before .before .before .geo-of in
     record {
-      told = dims-break (s .args .rank) (s .args .shape) (now (s .args .structure)) ranked (g .result) (g .ensures) (s .args .memory) (s .args .fed) (sym (ap₂ _||_ (c .before .before .has-zero .ensures) (c .before .too-large .ensures)) ∙ c .if2 .taken);
+      told = dims-break (s .args .rank) (s .args .shape) (now (s .args .structure)) ranked (g .result) (g .ensures) (s .args .memory)
+          (s .args .fed) (sym (ap₂ _||_ (c .before .before .has-zero .ensures) (c .before .too-large .ensures)) ∙ c .if2 .taken);
       geometry = λ t. absurd (true≢false (sym t));
     }
 
 words-needed-requires : tie.Need-words-needed-requires
 words-needed-requires c κs =
     let s = c .before .before .before .before .before .before .before in
-    let ranked = rank-test (s .args .rank) (s .args .shape) _ _ (c .before .before .before .before .before .before .bad-rank .ensures) (c .before .before .before .before .before .if1 .left) in
+    let ranked = rank-test (s .args .rank) (s .args .shape) _ _ (c .before .before .before .before .before .before .bad-rank .ensures)
+    (c .before .before .before .before .before .if1 .left) in
     let g = c .before .before .before .geo-of in
-    found-limits (s .args .rank) (s .args .shape) (now (s .args .structure)) ranked (g .result) (g .ensures) (s .args .memory) (s .args .fed) (sym (ap₂ _||_ (c .before .before .has-zero .ensures) (c .before .too-large .ensures)) ∙ c .if2 .left)
+    found-limits (s .args .rank) (s .args .shape) (now (s .args .structure)) ranked (g .result) (g .ensures) (s .args .memory)
+    (s .args .fed) (sym (ap₂ _||_ (c .before .before .has-zero .ensures) (c .before .too-large .ensures)) ∙ c .if2 .left)
 
 returns-3 : tie.Need-returns-3
 returns-3 c =
     let s = c .before .before .before .before .before .before .before .before .before in
     let d = c .before .before in
-    let ranked = rank-test (s .args .rank) (s .args .shape) _ _ (d .before .before .before .before .before .before .bad-rank .ensures) (d .before .before .before .before .before .if1 .left) in
+    let ranked = rank-test (s .args .rank) (s .args .shape) _ _ (d .before .before .before .before .before .before .bad-rank .ensures)
+    (d .before .before .before .before .before .if1 .left) in
     let g = d .before .before .before .geo-of in
     let none = sym (ap₂ _||_ (d .before .before .has-zero .ensures) (d .before .too-large .ensures)) ∙ d .if2 .left in
     record {
-      told = rest-decides (s .args .rank) (s .args .shape) (now (s .args .structure)) ranked (g .result) (g .ensures) (s .args .memory) (s .args .fed) none (c .before .words-needed .result) (c .before .words-needed .ensures);
-      geometry = λ t. found-geo (s .args .rank) (s .args .shape) (now (s .args .structure)) ranked (g .result) (g .ensures) (s .args .memory) (s .args .fed) none;
+      told = rest-decides (s .args .rank) (s .args .shape) (now (s .args .structure)) ranked (g .result) (g .ensures) (s .args .memory)
+          (s .args .fed) none (c .before .words-needed .result) (c .before .words-needed .ensures);
+      geometry = λ t. found-geo (s .args .rank) (s .args .shape) (now (s .args .structure)) ranked (g .result) (g .ensures)
+          (s .args .memory) (s .args .fed) none;
     }
 
 pub shape-sound-spec : {M : Type 1} → statement M

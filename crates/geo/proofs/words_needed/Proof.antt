@@ -21,12 +21,23 @@ mul-result c = search needs
 mul-result-2 : tie.Need-mul-result-2
 mul-result-2 c =
     let s = c .before .before .before in
-    record { fits = omega (arith, words-fit (s .args .g) (s .pre) (c .before .before .most-runs .result) (c .before .before .most-runs .ensures)) }
+    record {
+      fits = omega (
+        arith,
+        words-fit (s .args .g) (s .pre) (c .before .before .most-runs .result) (c .before .before .most-runs .ensures),
+      );
+    }
 
 add-result-2 : tie.Need-add-result-2
 add-result-2 c =
     let s = c .before .before .before in
-    record { fits = omega (arith, s .pre .lines, words-fit (s .args .g) (s .pre) (c .before .before .most-runs .result) (c .before .before .most-runs .ensures)) }
+    record {
+      fits = omega (
+        arith,
+        s .pre .lines,
+        words-fit (s .args .g) (s .pre) (c .before .before .most-runs .result) (c .before .before .most-runs .ensures),
+      );
+    }
 
 returns : tie.Need-returns
 returns c =

@@ -18,7 +18,9 @@ returns : tie.Need-returns
 returns c = feed-early (c .before .record-early .ensures) (c .if1 .taken)
 
 record-of-requires : tie.Need-record-of-requires
-record-of-requires c κs = let s = c .before .before .before .before .before .before .before .args in early-ready (now (s .rec)) (length (now (s .answer))) (sym (c .before .before .record-early .ensures) ∙ c .before .if1 .left)
+record-of-requires c κs =
+    let s = c .before .before .before .before .before .before .before .args in
+    early-ready (now (s .rec)) (length (now (s .answer))) (sym (c .before .before .record-early .ensures) ∙ c .before .if1 .left)
 
 feed-i16-requires : tie.Need-feed-i16-requires
 feed-i16-requires c κs = tt
@@ -36,7 +38,12 @@ same-length-4 : tie.Need-same-length-4
 same-length-4 c = c .before .answer .given
 
 returns-2 : tie.Need-returns-2
-returns-2 c = feed-made (c .before .before .before .before .before .before .before .before .before .before .before .before .before .before .record-early .ensures) (c .before .before .before .before .before .before .before .before .before .before .before .before .before .if1 .left) (c .before .before .before .before .before .before .before .before .before .before .before .record-of .ensures) (c .before .before .before .before .before .before .before .before .before .feed-i16 .ensures) (c .before .before .before .before .end-feed .ensures)
+returns-2 c = feed-made
+    (c .before .before .before .before .before .before .before .before .before .before .before .before .before .before .record-early
+    .ensures) (c .before .before .before .before .before .before .before .before .before .before .before .before .before .if1 .left)
+    (c .before .before .before .before .before .before .before .before .before .before .before .record-of .ensures)
+    (c .before .before .before .before .before .before .before .before .before .feed-i16 .ensures)
+    (c .before .before .before .before .end-feed .ensures)
 
 pub label-feed-i16-spec : {M : Type 1} → statement M
 label-feed-i16-spec =

@@ -23,7 +23,8 @@ same-length-3 : tie.Need-same-length-3
 same-length-3 c = c .before .answer .given
 
 returns-2 : tie.Need-returns-2
-returns-2 c = frame-made (c .before .before .before .before .before .before .before .before .before .before .before .if1 .left) (c .before .before .before .before .before .before .before .before .label-impl-f32-u32 .ensures) (c .before .before .end-read .ensures)
+returns-2 c = frame-made (c .before .before .before .before .before .before .before .before .before .before .before .if1 .left)
+    (c .before .before .before .before .before .before .before .before .label-impl-f32-u32 .ensures) (c .before .before .end-read .ensures)
 
 pub label-frame-f32-u32-spec : {M : Type 1} → statement M
 label-frame-f32-u32-spec =

@@ -6,7 +6,9 @@ use Rattle.label_c.proofs.label_open.Statement.{statement}
 use Rattle.label_c.proofs.label_open.Tie as tie
 
 returns : tie.Need-returns
-returns c = let s = c .before .before .before .before .before .args in open-early (now (s .shape)) (now (s .structure)) (now (s .words)) (now (s .rec)) (c .if1 .taken)
+returns c =
+    let s = c .before .before .before .before .before .args in
+    open-early (now (s .shape)) (now (s .structure)) (now (s .words)) (now (s .rec)) (c .if1 .taken)
 
 open-requires : tie.Need-open-requires
 open-requires c κs = tt
@@ -21,7 +23,12 @@ same-length-2 : tie.Need-same-length-2
 same-length-2 c = c .before .rec .given
 
 returns-2 : tie.Need-returns-2
-returns-2 c = let s = c .before .before .before .before .before .before .before .before .before .before .before .before .before .args in open-made (now (s .shape)) (now (s .structure)) (now (s .words)) (now (s .rec)) (c .before .before .before .before .before .before .before .before .if1 .left) (c .before .before .before .before .before .before .«open» .ensures) (c .before .before .end-open .ensures .0) (c .before .before .end-open .ensures .1)
+returns-2 c =
+    let s = c .before .before .before .before .before .before .before .before .before .before .before .before .before .args in
+    open-made (now (s .shape)) (now (s .structure)) (now (s .words)) (now (s .rec))
+    (c .before .before .before .before .before .before .before .before .if1 .left)
+    (c .before .before .before .before .before .before .«open» .ensures) (c .before .before .end-open .ensures .0)
+    (c .before .before .end-open .ensures .1)
 
 pub label-open-spec : {M : Type 1} → statement M
 label-open-spec =

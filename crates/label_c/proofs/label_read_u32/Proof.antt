@@ -15,7 +15,9 @@ returns : tie.Need-returns
 returns c = read-early (c .before .record-early .ensures) (c .if1 .taken)
 
 record-of-requires : tie.Need-record-of-requires
-record-of-requires c κs = let s = c .before .before .before .before .before .before .args in early-ready (now (s .rec)) (length (now (s .answer))) (sym (c .before .record-early .ensures) ∙ c .if1 .left)
+record-of-requires c κs =
+    let s = c .before .before .before .before .before .before .args in
+    early-ready (now (s .rec)) (length (now (s .answer))) (sym (c .before .record-early .ensures) ∙ c .if1 .left)
 
 read-u32-requires : tie.Need-read-u32-requires
 read-u32-requires c κs = tt
@@ -33,7 +35,11 @@ same-length-3 : tie.Need-same-length-3
 same-length-3 c = c .before .answer .given
 
 returns-2 : tie.Need-returns-2
-returns-2 c = read-made (c .before .before .before .before .before .before .before .before .before .before .before .before .before .record-early .ensures) (c .before .before .before .before .before .before .before .before .before .before .before .before .if1 .left) (c .before .before .before .before .before .before .before .before .before .before .before .record-of .ensures) (c .before .before .before .before .before .before .before .before .read-u32 .ensures) (c .before .before .end-read .ensures)
+returns-2 c = read-made
+    (c .before .before .before .before .before .before .before .before .before .before .before .before .before .record-early .ensures)
+    (c .before .before .before .before .before .before .before .before .before .before .before .before .if1 .left)
+    (c .before .before .before .before .before .before .before .before .before .before .before .record-of .ensures)
+    (c .before .before .before .before .before .before .before .before .read-u32 .ensures) (c .before .before .end-read .ensures)
 
 pub label-read-u32-spec : {M : Type 1} → statement M
 label-read-u32-spec =

@@ -15,7 +15,9 @@ returns : tie.Need-returns
 returns c = sizes-early (c .before .record-early .ensures) (c .if1 .taken)
 
 record-of-requires : tie.Need-record-of-requires
-record-of-requires c κs = let s = c .before .before .before .before .before .before .args in early-ready (now (s .rec)) (length (now (s .answer))) (sym (c .before .record-early .ensures) ∙ c .if1 .left)
+record-of-requires c κs =
+    let s = c .before .before .before .before .before .before .args in
+    early-ready (now (s .rec)) (length (now (s .answer))) (sym (c .before .record-early .ensures) ∙ c .if1 .left)
 
 sizes-requires : tie.Need-sizes-requires
 sizes-requires c κs = tt
@@ -33,7 +35,11 @@ same-length-3 : tie.Need-same-length-3
 same-length-3 c = c .before .answer .given
 
 returns-2 : tie.Need-returns-2
-returns-2 c = sizes-made (c .before .before .before .before .before .before .before .before .before .before .before .before .before .record-early .ensures) (c .before .before .before .before .before .before .before .before .before .before .before .before .if1 .left) (c .before .before .before .before .before .before .before .before .before .before .before .record-of .ensures) (c .before .before .before .before .before .before .before .before .sizes .ensures) (c .before .before .end-read .ensures)
+returns-2 c = sizes-made
+    (c .before .before .before .before .before .before .before .before .before .before .before .before .before .record-early .ensures)
+    (c .before .before .before .before .before .before .before .before .before .before .before .before .if1 .left)
+    (c .before .before .before .before .before .before .before .before .before .before .before .record-of .ensures)
+    (c .before .before .before .before .before .before .before .before .sizes .ensures) (c .before .before .end-read .ensures)
 
 pub label-sizes-spec : {M : Type 1} → statement M
 label-sizes-spec =

@@ -15,7 +15,13 @@ returns-3 : tie.Need-returns-3
 returns-3 c = half-at 2 (c .before .before .before .args .n) (c .if3 .taken)
 
 returns-4 : tie.Need-returns-4
-returns-4 c = half-at 3 (c .before .before .before .args .n) (omega (arith, c .before .before .if1 .left, c .before .if2 .left, c .if3 .left, c .before .before .before .pre))
+returns-4 c = half-at 3 (c .before .before .before .args .n) (omega (
+  arith,
+  c .before .before .if1 .left,
+  c .before .if2 .left,
+  c .if3 .left,
+  c .before .before .before .pre,
+))
 
 pub backward-count-spec : {M : Type 1} → statement M
 backward-count-spec = tie.close (tie.spec returns returns-2 returns-3 returns-4)

@@ -65,13 +65,18 @@ part-link-end : tie.Need-part-link-end
 part-link-end c = search needs
 
 link-requires : tie.Need-link-requires
-link-requires c κs = let s = c .before .before .before .before .before .before in lent-lines (s .args .lines) (s .args .words .now) (s .args .line) (s .args .m) (s .pre .0) (s .pre .1)
+link-requires c κs =
+    let s = c .before .before .before .before .before .before in
+    lent-lines (s .args .lines) (s .args .words .now) (s .args .line) (s .args .m) (s .pre .0) (s .pre .1)
 
 same-length : tie.Need-same-length
 same-length c = search needs
 
 returns : tie.Need-returns
-returns c = let s = c .before .before .before .before .before .before .before .before .before in lent-back (s .args .lines) (s .args .words .now) (s .args .line) (s .args .m) (s .pre .0) (s .pre .1) (s .args .by) (c .before .before .link .last .0) (c .before .before .link .result) (c .before .before .link .ensures)
+returns c =
+    let s = c .before .before .before .before .before .before .before .before .before in
+    lent-back (s .args .lines) (s .args .words .now) (s .args .line) (s .args .m) (s .pre .0) (s .pre .1) (s .args .by)
+    (c .before .before .link .last .0) (c .before .before .link .result) (c .before .before .link .ensures)
 
 pub link-lines-spec : {M : Type 1} → statement M
 link-lines-spec =

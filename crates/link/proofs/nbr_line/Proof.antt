@@ -55,37 +55,49 @@ mul-t40 : tie.Need-mul-t40
 mul-t40 c =
     let a = c .before in
     let s = a .before .before .before .before .before .before .before .before .before in
-    fits-first (s .args .t1) (s .args .t2) (s .args .t3) (s .pre) (a .before .before .before .before .before .before .moved .result) (a .before .before .before .moved2 .result) (a .moved3 .result) (a .before .before .before .before .before .before .moved .ensures) (a .before .before .before .moved2 .ensures) (a .moved3 .ensures) (three-dims s) (c .if1 .taken)
+    fits-first (s .args .t1) (s .args .t2) (s .args .t3) (s .pre) (a .before .before .before .before .before .before .moved .result)
+    (a .before .before .before .moved2 .result) (a .moved3 .result) (a .before .before .before .before .before .before .moved .ensures)
+    (a .before .before .before .moved2 .ensures) (a .moved3 .ensures) (three-dims s) (c .if1 .taken)
 
 add-t41 : tie.Need-add-t41
 add-t41 c =
     let a = c .before in
     let s = a .before .before .before .before .before .before .before .before .before in
-    fits-row (s .args .t1) (s .args .t2) (s .args .t3) (s .pre) (a .before .before .before .before .before .before .moved .result) (a .before .before .before .moved2 .result) (a .moved3 .result) (a .before .before .before .before .before .before .moved .ensures) (a .before .before .before .moved2 .ensures) (a .moved3 .ensures) (three-dims s) (c .if1 .taken)
+    fits-row (s .args .t1) (s .args .t2) (s .args .t3) (s .pre) (a .before .before .before .before .before .before .moved .result)
+    (a .before .before .before .moved2 .result) (a .moved3 .result) (a .before .before .before .before .before .before .moved .ensures)
+    (a .before .before .before .moved2 .ensures) (a .moved3 .ensures) (three-dims s) (c .if1 .taken)
 
 mul-t42 : tie.Need-mul-t42
 mul-t42 c =
     let a = c .before in
     let s = a .before .before .before .before .before .before .before .before .before in
-    fits-rows (s .args .t1) (s .args .t2) (s .args .t3) (s .pre) (a .before .before .before .before .before .before .moved .result) (a .before .before .before .moved2 .result) (a .moved3 .result) (a .before .before .before .before .before .before .moved .ensures) (a .before .before .before .moved2 .ensures) (a .moved3 .ensures) (three-dims s) (c .if1 .taken)
+    fits-rows (s .args .t1) (s .args .t2) (s .args .t3) (s .pre) (a .before .before .before .before .before .before .moved .result)
+    (a .before .before .before .moved2 .result) (a .moved3 .result) (a .before .before .before .before .before .before .moved .ensures)
+    (a .before .before .before .moved2 .ensures) (a .moved3 .ensures) (three-dims s) (c .if1 .taken)
 
 add-t43 : tie.Need-add-t43
 add-t43 c =
     let a = c .before in
     let s = a .before .before .before .before .before .before .before .before .before in
-    fits-all (s .args .t1) (s .args .t2) (s .args .t3) (s .pre) (a .before .before .before .before .before .before .moved .result) (a .before .before .before .moved2 .result) (a .moved3 .result) (a .before .before .before .before .before .before .moved .ensures) (a .before .before .before .moved2 .ensures) (a .moved3 .ensures) (three-dims s) (c .if1 .taken)
+    fits-all (s .args .t1) (s .args .t2) (s .args .t3) (s .pre) (a .before .before .before .before .before .before .moved .result)
+    (a .before .before .before .moved2 .result) (a .moved3 .result) (a .before .before .before .before .before .before .moved .ensures)
+    (a .before .before .before .moved2 .ensures) (a .moved3 .ensures) (three-dims s) (c .if1 .taken)
 
 returns : tie.Need-returns
 returns c =
     let a = c .before in
     let s = a .before .before .before .before .before .before .before .before .before in
-    at-line (s .args .t1) (s .args .t2) (s .args .t3) (s .pre) (a .before .before .before .before .before .before .moved .result) (a .before .before .before .moved2 .result) (a .moved3 .result) (a .before .before .before .before .before .before .moved .ensures) (a .before .before .before .moved2 .ensures) (a .moved3 .ensures) (three-dims s) (c .if1 .taken) (three-moves s)
+    at-line (s .args .t1) (s .args .t2) (s .args .t3) (s .pre) (a .before .before .before .before .before .before .moved .result)
+    (a .before .before .before .moved2 .result) (a .moved3 .result) (a .before .before .before .before .before .before .moved .ensures)
+    (a .before .before .before .moved2 .ensures) (a .moved3 .ensures) (three-dims s) (c .if1 .taken) (three-moves s)
 
 returns-2 : tie.Need-returns-2
 returns-2 c =
     let a = c .before in
     let s = a .before .before .before .before .before .before .before .before .before in
-    outside (s .args .t1) (s .args .t2) (s .args .t3) (s .pre) (a .before .before .before .before .before .before .moved .result) (a .before .before .before .moved2 .result) (a .moved3 .result) (a .before .before .before .before .before .before .moved .ensures) (a .before .before .before .moved2 .ensures) (a .moved3 .ensures) (three-dims s) (three-moves s) (c .if1 .left)
+    outside (s .args .t1) (s .args .t2) (s .args .t3) (s .pre) (a .before .before .before .before .before .before .moved .result)
+    (a .before .before .before .moved2 .result) (a .moved3 .result) (a .before .before .before .before .before .before .moved .ensures)
+    (a .before .before .before .moved2 .ensures) (a .moved3 .ensures) (three-dims s) (three-moves s) (c .if1 .left)
 
 pub nbr-line-spec : {M : Type 1} → statement M
 nbr-line-spec =

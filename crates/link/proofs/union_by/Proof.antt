@@ -48,7 +48,10 @@ delta-requires : tie.Need-delta-requires
 delta-requires c κs = search needs
 
 nbr-line-requires : tie.Need-nbr-line-requires
-nbr-line-requires c κs = let s = c .before .before .before .before .before .before .before .before in moves-ready (s .args .g .leads) (s .args .g .dims) (s .args .g .lines) (s .args .line) (s .args .code) (s .pre .0 .leading) (three s) (s .pre .0 .lines .within) (omega (arith, s .pre .2)) (s .args .c) (c .delta .result) (s .pre .1) (search needs) (c .delta .ensures)
+nbr-line-requires c κs =
+    let s = c .before .before .before .before .before .before .before .before in
+    moves-ready (s .args .g .leads) (s .args .g .dims) (s .args .g .lines) (s .args .line) (s .args .code) (s .pre .0 .leading) (three s)
+    (s .pre .0 .lines .within) (omega (arith, s .pre .2)) (s .args .c) (c .delta .result) (s .pre .1) (search needs) (c .delta .ensures)
 
 enum-known-m : tie.Need-enum-known-m
 enum-known-m c = search needs
@@ -57,8 +60,14 @@ link-lines-requires : tie.Need-link-lines-requires
 unfolding on
 link-lines-requires c κs =
     let s = c .before .before .before .before .before .before .before .before .before .before .before .before .before in
-    let at = sym (c .before .before .m .given .1) ∙ (c .before .before .before .before .nbr-line .ensures (s .args .line) (s .pre .1) ∙ ap (λ (l : List ℕ). nbrOf (s .args .g .dims) l (s .args .line)) (c .before .before .before .before .before .delta .ensures)) in
-    (s .pre .0 .lines, by-earlier (s .args .g .leads) (s .args .g .dims) (s .args .g .lines) (s .pre .0 .leading) (three s) (now (s .args .structure)) (now (s .args .words)) (s .args .line) (s .args .code) (s .pre .0 .lines .within) (s .pre .2) (c .before .before .m .given .0 .0) (c .before .before .before .before .before .before .before .if1 .taken) at)
+    let at = sym (c .before .before .m .given .1)
+    ∙ (c .before .before .before .before .nbr-line .ensures (s .args .line) (s .pre .1)
+    ∙ ap (λ (l : List ℕ). nbrOf (s .args .g .dims) l (s .args .line)) (c .before .before .before .before .before .delta .ensures)) in (
+      s .pre .0 .lines,
+      by-earlier (s .args .g .leads) (s .args .g .dims) (s .args .g .lines) (s .pre .0 .leading) (three s)
+          (now (s .args .structure)) (now (s .args .words)) (s .args .line) (s .args .code) (s .pre .0 .lines .within) (s .pre .2)
+          (c .before .before .m .given .0 .0) (c .before .before .before .before .before .before .before .if1 .taken) at,
+    )
 
 enum-told : tie.Need-enum-told
 enum-told c = search needs
@@ -69,23 +78,43 @@ same-length c = search needs
 returns : tie.Need-returns
 unfolding on
 returns c =
-    let s = c .before .before .before .before .before .before .before .before .before .before .before .before .before .before .before .before in
+    let s =
+    c .before .before .before .before .before .before .before .before .before .before .before .before .before .before .before .before in
     let u = c .before .before in
-    let at = sym (u .before .before .before .m .given .1) ∙ (u .before .before .before .before .before .nbr-line .ensures (s .args .line) (s .pre .1) ∙ ap (λ (l : List ℕ). nbrOf (s .args .g .dims) l (s .args .line)) (u .before .before .before .before .before .before .delta .ensures)) in
-    subst (λ (es : List Edge). UnitedIn (s .args .g .lines) (now (s .args .words)) (u .link-lines .last .0) (runsTo (now (s .args .words)) (s .args .line)) es (u .link-lines .result)) (sym (by-pairs (s .args .g .leads) (s .args .g .dims) (s .args .g .lines) (s .pre .0 .leading) (three s) (now (s .args .structure)) (now (s .args .words)) (s .args .line) (s .args .code) (s .pre .0 .lines .within) (s .pre .2) (u .before .before .before .m .given .0 .0) (u .before .before .before .before .before .before .before .before .if1 .taken) at)) (u .link-lines .ensures)
+    let at = sym (u .before .before .before .m .given .1)
+    ∙ (u .before .before .before .before .before .nbr-line .ensures (s .args .line) (s .pre .1)
+    ∙ ap (λ (l : List ℕ). nbrOf (s .args .g .dims) l (s .args .line))
+    (u .before .before .before .before .before .before .delta .ensures)) in
+    subst (λ (es : List Edge). UnitedIn (s .args .g .lines) (now (s .args .words)) (u .link-lines .last .0)
+    (runsTo (now (s .args .words)) (s .args .line)) es (u .link-lines .result))
+    (sym (by-pairs (s .args .g .leads) (s .args .g .dims) (s .args .g .lines) (s .pre .0 .leading) (three s) (now (s .args .structure))
+    (now (s .args .words)) (s .args .line) (s .args .code) (s .pre .0 .lines .within) (s .pre .2)
+    (u .before .before .before .m .given .0 .0) (u .before .before .before .before .before .before .before .before .if1 .taken) at))
+    (u .link-lines .ensures)
 
 returns-2 : tie.Need-returns-2
 unfolding on
 returns-2 c =
     let s = c .before .before .before .before .before .before .before .before .before .before .before in
-    let none = sym (c .enum-told .given .1) ∙ (c .before .before .nbr-line .ensures (s .args .line) (s .pre .1) ∙ ap (λ (l : List ℕ). nbrOf (s .args .g .dims) l (s .args .line)) (c .before .before .before .delta .ensures)) in
-    subst (λ (es : List Edge). UnitedIn (s .args .g .lines) (now (s .args .words)) (now (s .args .words)) (runsTo (now (s .args .words)) (s .args .line)) es 0) (sym (by-none (s .args .g .leads) (s .args .g .dims) (s .args .g .lines) (s .pre .0 .leading) (three s) (now (s .args .structure)) (now (s .args .words)) (s .args .line) (s .args .code) (s .pre .0 .lines .within) (s .pre .2) (c .before .before .before .before .before .if1 .taken) none)) (in-none (s .args .g .lines) (now (s .args .words)) (s .args .line) (s .pre .0 .lines))
+    let none = sym (c .enum-told .given .1)
+    ∙ (c .before .before .nbr-line .ensures (s .args .line) (s .pre .1)
+    ∙ ap (λ (l : List ℕ). nbrOf (s .args .g .dims) l (s .args .line)) (c .before .before .before .delta .ensures)) in
+    subst (λ (es : List Edge). UnitedIn (s .args .g .lines) (now (s .args .words)) (now (s .args .words))
+    (runsTo (now (s .args .words)) (s .args .line)) es 0)
+    (sym (by-none (s .args .g .leads) (s .args .g .dims) (s .args .g .lines) (s .pre .0 .leading) (three s) (now (s .args .structure))
+    (now (s .args .words)) (s .args .line) (s .args .code) (s .pre .0 .lines .within) (s .pre .2)
+    (c .before .before .before .before .before .if1 .taken) none))
+    (in-none (s .args .g .lines) (now (s .args .words)) (s .args .line) (s .pre .0 .lines))
 
 returns-3 : tie.Need-returns-3
 unfolding on
 returns-3 c =
     let s = c .before .before .before .before .before .before in
-    subst (λ (es : List Edge). UnitedIn (s .args .g .lines) (now (s .args .words)) (now (s .args .words)) (runsTo (now (s .args .words)) (s .args .line)) es 0) (sym (by-unused (s .args .g .leads) (s .args .g .dims) (s .args .g .lines) (s .pre .0 .leading) (three s) (now (s .args .structure)) (now (s .args .words)) (s .args .line) (s .args .code) (s .pre .0 .lines .within) (s .pre .2) (c .if1 .left))) (in-none (s .args .g .lines) (now (s .args .words)) (s .args .line) (s .pre .0 .lines))
+    subst (λ (es : List Edge). UnitedIn (s .args .g .lines) (now (s .args .words)) (now (s .args .words))
+    (runsTo (now (s .args .words)) (s .args .line)) es 0)
+    (sym (by-unused (s .args .g .leads) (s .args .g .dims) (s .args .g .lines) (s .pre .0 .leading) (three s) (now (s .args .structure))
+    (now (s .args .words)) (s .args .line) (s .args .code) (s .pre .0 .lines .within) (s .pre .2) (c .if1 .left)))
+    (in-none (s .args .g .lines) (now (s .args .words)) (s .args .line) (s .pre .0 .lines))
 
 pub union-by-spec : {M : Type 1} → statement M
 union-by-spec =

@@ -29,10 +29,17 @@ same-length-2 : tie.Need-same-length-2
 same-length-2 c = search needs
 
 returns : tie.Need-returns
-returns c = rw (c .before .before .before .before .before .before .before .before .before .said .given .1) (record { ends = ends-written _ refl (c .before .before .put-figures .ensures); record-is = record-written 0 _ _ refl (c .before .before .before .before .before .before .write-record .ensures) })
+returns c = rw (c .before .before .before .before .before .before .before .before .before .said .given .1)
+    (record {
+      ends = ends-written _ refl (c .before .before .put-figures .ensures);
+      record-is = record-written 0 _ _ refl
+          (c .before .before .before .before .before .before .write-record .ensures);
+    })
 
 returns-2 : tie.Need-returns-2
-returns-2 c = let g = c .before .before .said2 .given in rw (g .1) (record { ends = ends-refused _ _ (c .number .ensures); record-is = record-stands _ _ _ (positive (g .0 .0)) })
+returns-2 c =
+    let g = c .before .before .said2 .given in
+    rw (g .1) (record { ends = ends-refused _ _ (c .number .ensures); record-is = record-stands _ _ _ (positive (g .0 .0)) })
 
 pub end-feed-spec : {M : Type 1} → statement M
 end-feed-spec =

@@ -23,7 +23,8 @@ same-length : tie.Need-same-length
 same-length c = search needs
 
 returns : tie.Need-returns
-returns c = rw (c .before .before .before .before .enum-told .given .1) (refl, record-written 0 _ _ refl (c .before .before .write-record .ensures))
+returns c = rw (c .before .before .before .before .enum-told .given .1)
+    (refl, record-written 0 _ _ refl (c .before .before .write-record .ensures))
 
 returns-2 : tie.Need-returns-2
 returns-2 c = let g = c .before .before .answer .given in rw (g .1) (c .number .ensures, record-stands _ _ _ (positive (g .0 .0)))

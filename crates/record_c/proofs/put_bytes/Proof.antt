@@ -37,8 +37,11 @@ loop-less c = search needs
 loop-again : tie.Need-loop-again Inv-loop μ-loop
 loop-again c =
     let l = c .before .before .before .before .before .before .before .loop in
-    let list = now (c .before .before .before .before .before .before .before .before .before .before .args .list) in
-    (omega arith, adds-next list (l .i) (omega arith) (l .inv .1) (rw (← c .before .before .before .wide .ensures) (c .before .before .put .ensures)))
+    let list = now (c .before .before .before .before .before .before .before .before .before .before .args .list) in (
+      omega arith,
+      adds-next list (l .i) (omega arith) (l .inv .1)
+          (rw (← c .before .before .before .wide .ensures) (c .before .before .put .ensures)),
+    )
 
 same-length : tie.Need-same-length Inv-loop μ-loop
 same-length c = c .before .loop .inv .1 .long

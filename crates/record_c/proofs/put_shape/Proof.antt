@@ -35,10 +35,14 @@ same-length c = search needs
 
 returns : tie.Need-returns
 returns c =
-    let shape = c .before .before .before .before .before .before .before .before .before .before .before .before .before .before .before .before .before .args .t3 in
+    let shape =
+    c .before .before .before .before .before .before .before .before .before .before .before .before .before .before .before .before
+    .before .args .t3 in
     let third = c .before .before .before .before .before .before in
     rw (← four shape (search needs))
-    (adds-then (third .before .before .before .before .before .before .before .before .put .ensures) (adds-then (third .before .before .before .before .put2 .ensures) (adds-then (third .put3 .ensures) (c .before .before .put4 .ensures))))
+    (adds-then (third .before .before .before .before .before .before .before .before .put .ensures)
+    (adds-then (third .before .before .before .before .put2 .ensures)
+    (adds-then (third .put3 .ensures) (c .before .before .put4 .ensures))))
 
 pub put-shape-spec : {M : Type 1} → statement M
 put-shape-spec =

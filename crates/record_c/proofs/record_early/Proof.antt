@@ -14,7 +14,8 @@ returns : tie.Need-returns
 returns c = sym (record-short (now (c .before .before .args .rec)) (c .before .before .args .answer) (omega arith))
 
 returns-2 : tie.Need-returns-2
-returns-2 c = sym (answer-short (now (c .before .before .before .args .rec)) (c .before .before .before .args .answer) (omega arith) (omega arith))
+returns-2 c =
+    sym (answer-short (now (c .before .before .before .args .rec)) (c .before .before .before .args .answer) (omega arith) (omega arith))
 
 sub-are-bytes : tie.Need-sub-are-bytes
 sub-are-bytes c = search needs
@@ -29,10 +30,16 @@ are-bytes-requires : tie.Need-are-bytes-requires
 are-bytes-requires c κs = tt
 
 returns-3 : tie.Need-returns-3
-returns-3 c = let s = c .before .before .before .before .before .before .args in sym (early-by-bytes (now (s .rec)) (s .answer) (omega arith) (omega arith) false (sym (c .before .are-bytes .ensures) ∙ not-true _ (c .if3 .taken)))
+returns-3 c =
+    let s = c .before .before .before .before .before .before .args in
+    sym (early-by-bytes (now (s .rec)) (s .answer) (omega arith) (omega arith) false
+    (sym (c .before .are-bytes .ensures) ∙ not-true _ (c .if3 .taken)))
 
 returns-4 : tie.Need-returns-4
-returns-4 c = let s = c .before .before .before .before .before .before .args in sym (early-by-bytes (now (s .rec)) (s .answer) (omega arith) (omega arith) true (sym (c .before .are-bytes .ensures) ∙ not-false _ (c .if3 .left)))
+returns-4 c =
+    let s = c .before .before .before .before .before .before .args in
+    sym (early-by-bytes (now (s .rec)) (s .answer) (omega arith) (omega arith) true
+    (sym (c .before .are-bytes .ensures) ∙ not-false _ (c .if3 .left)))
 
 pub record-early-spec : {M : Type 1} → statement M
 record-early-spec =

@@ -27,7 +27,10 @@ shared-slice-read-out : tie.Need-shared-slice-read-out Inv-loop μ-loop
 shared-slice-read-out c = search needs
 
 cast-out : tie.Need-cast-out Inv-loop μ-loop
-cast-out c = omega (arith, byte-at (now (c .before .before .before .args .words)) (c .before .before .before .pre .are-bytes) (c .before .before .loop .i))
+cast-out c = omega (
+  arith,
+  byte-at (now (c .before .before .before .args .words)) (c .before .before .before .pre .are-bytes) (c .before .before .loop .i),
+)
 
 array-write-out : tie.Need-array-write-out Inv-loop μ-loop
 array-write-out c = omega (arith, c .before .before .before .pre .long)
@@ -40,8 +43,11 @@ loop-less c = search needs
 
 loop-again : tie.Need-loop-again Inv-loop μ-loop
 loop-again c =
-    let l = c .before .before .loop in
-    (omega arith, front-turn 81 (now (c .before .before .before .args .words)) (l .out) (l .i) (l .inv .1) (omega arith) (omega (arith, c .before .before .before .pre .long)))
+    let l = c .before .before .loop in (
+      omega arith,
+      front-turn 81 (now (c .before .before .before .args .words)) (l .out) (l .i) (l .inv .1) (omega arith)
+          (omega (arith, c .before .before .before .pre .long)),
+    )
 
 returns : tie.Need-returns Inv-loop μ-loop
 returns c =

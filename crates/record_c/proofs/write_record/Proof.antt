@@ -26,7 +26,8 @@ unfolding wordsOf
 returns c =
     let shape = c .before .before .before .before .before .before .before .before .before .before .before .before .before .before in
     adds-first (adds-then (shape .before .before .before .before .before .put .ensures)
-    (adds-then (shape .put-shape .ensures) (adds-then (c .before .before .before .before .before .before .before .put-bytes .ensures) (c .before .before .put-figures .ensures)))) .now-is
+    (adds-then (shape .put-shape .ensures) (adds-then (c .before .before .before .before .before .before .before .put-bytes .ensures)
+    (c .before .before .put-figures .ensures)))) .now-is
 
 pub write-record-spec : {M : Type 1} → statement M
 write-record-spec =

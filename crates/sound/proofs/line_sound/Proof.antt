@@ -12,7 +12,8 @@ use Rattle.sound.proofs.line_sound.Statement.{statement}
 use Rattle.sound.proofs.line_sound.Tie as tie
 
 abbrev Inv-loop : tie.InvT-loop
-Inv-loop words g a b gap longest base least₀ nonroots₀ r₀ least nonroots r = RunsTo (g .lines) (g .width) (g .left) words a b r least nonroots
+Inv-loop words g a b gap longest base least₀ nonroots₀ r₀ least nonroots r =
+    RunsTo (g .lines) (g .width) (g .left) words a b r least nonroots
 
 abbrev μ-loop : tie.MeasureT-loop
 μ-loop words g a b gap longest base least₀ nonroots₀ r₀ least nonroots r = b - r
@@ -43,7 +44,9 @@ shared-slice-read-s : tie.Need-shared-slice-read-s Inv-loop μ-loop
 shared-slice-read-s c = search needs
 
 cast-s : tie.Need-cast-s Inv-loop μ-loop
-cast-s c = let l = c .before .before in omega (arith, c .shared-slice-known2 .given (startPlace (l .before .before .before .before .before .args .g .lines) (l .loop .r)))
+cast-s c =
+    let l = c .before .before in
+    omega (arith, c .shared-slice-known2 .given (startPlace (l .before .before .before .before .before .args .g .lines) (l .loop .r)))
 
 add-e : tie.Need-add-e Inv-loop μ-loop
 add-e c = search needs
@@ -58,7 +61,9 @@ shared-slice-read-e : tie.Need-shared-slice-read-e Inv-loop μ-loop
 shared-slice-read-e c = search needs
 
 cast-e : tie.Need-cast-e Inv-loop μ-loop
-cast-e c = let l = c .before .before .before in omega (arith, c .shared-slice-known3 .given (endPlace (l .before .before .before .before .before .args .g .lines) (l .loop .r)))
+cast-e c =
+    let l = c .before .before .before in
+    omega (arith, c .shared-slice-known3 .given (endPlace (l .before .before .before .before .before .args .g .lines) (l .loop .r)))
 
 add-p : tie.Need-add-p Inv-loop μ-loop
 add-p c = search needs
@@ -73,24 +78,38 @@ shared-slice-read-p : tie.Need-shared-slice-read-p Inv-loop μ-loop
 shared-slice-read-p c = search needs
 
 cast-p : tie.Need-cast-p Inv-loop μ-loop
-cast-p c = let l = c .before .before .before .before in omega (arith, c .shared-slice-known4 .given (parentPlace (l .before .before .before .before .before .args .g .lines) (l .loop .r)))
+cast-p c =
+    let l = c .before .before .before .before in
+    omega (arith, c .shared-slice-known4 .given (parentPlace (l .before .before .before .before .before .args .g .lines) (l .loop .r)))
 
 no-run-requires : tie.Need-no-run-requires Inv-loop μ-loop
 no-run-requires c κs =
     let l = c .before .before .before .before in
-    let k = l .before .before .before .before .before .args in
-    (omega (arith, is-longest (l .before .before), longest-few (k .g .left)), omega (arith, c .before .before .shared-slice-known2 .given (startPlace (k .g .lines) (l .loop .r))), omega (arith, c .before .shared-slice-known3 .given (endPlace (k .g .lines) (l .loop .r))))
+    let k = l .before .before .before .before .before .args in (
+      omega (arith, is-longest (l .before .before), longest-few (k .g .left)),
+      omega (
+        arith,
+        c .before .before .shared-slice-known2 .given (startPlace (k .g .lines) (l .loop .r)),
+      ),
+      omega (arith, c .before .shared-slice-known3 .given (endPlace (k .g .lines) (l .loop .r))),
+    )
 
 returns : tie.Need-returns Inv-loop μ-loop
 returns c =
     let l = c .before .before .before .before .before .before in
-    runs-wrong _ _ _ _ (byte-gap _) (l .loop .inv) (omega arith) (rw (c .before .no-run .ensures (l .before .before .before .before .before .args .g .left) (is-longest (l .before .before))) at (c .if2 .taken))
+    runs-wrong _ _ _ _ (byte-gap _) (l .loop .inv) (omega arith)
+    (rw (c .before .no-run .ensures (l .before .before .before .before .before .args .g .left) (is-longest (l .before .before)))
+    at (c .if2 .taken))
 
 add-least : tie.Need-add-least Inv-loop μ-loop
 add-least c =
     let l = c .before .before .before .before .before .before in
     let s = l .before .before .before .before .before in
-    omega (arith, c .before .before .before .shared-slice-known3 .given (endPlace (s .args .g .lines) (l .loop .r)), byte-le (s .args .g .left))
+    omega (
+      arith,
+      c .before .before .before .shared-slice-known3 .given (endPlace (s .args .g .lines) (l .loop .r)),
+      byte-le (s .args .g .left),
+    )
 
 cast-nonroots : tie.Need-cast-nonroots Inv-loop μ-loop
 cast-nonroots c = search needs
@@ -98,11 +117,15 @@ cast-nonroots c = search needs
 loop-again : tie.Need-loop-again Inv-loop μ-loop
 loop-again c =
     let l = c .before .before .before .before .before .before in
-    runs-more _ _ _ _ (byte-gap _) (l .loop .inv) (omega arith) (rw (c .before .no-run .ensures (l .before .before .before .before .before .args .g .left) (is-longest (l .before .before))) at (c .if2 .left))
+    runs-more _ _ _ _ (byte-gap _) (l .loop .inv) (omega arith)
+    (rw (c .before .no-run .ensures (l .before .before .before .before .before .args .g .left) (is-longest (l .before .before)))
+    at (c .if2 .left))
 
 -- no more of them than runs
 add-nonroots : tie.Need-add-nonroots Inv-loop μ-loop
-add-nonroots c = let l = c .before .before .before .before .before .before in record { fits = omega (arith, loop-again c .few, loop-again c .upto, l .before .before .before .before .before .pre .memory) }
+add-nonroots c =
+    let l = c .before .before .before .before .before .before in
+    record { fits = omega (arith, loop-again c .few, loop-again c .upto, l .before .before .before .before .before .pre .memory) }
 
 add-r : tie.Need-add-r Inv-loop μ-loop
 add-r c = search needs

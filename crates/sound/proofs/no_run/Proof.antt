@@ -18,7 +18,9 @@ wrapping-sub-usize-requires c κs = search needs
 returns : tie.Need-returns
 returns c left is =
     let s = c .before .args in
-    ap (λ (n : ℕ). leb n (c .wrapping-sub-usize .result)) is ∙ one-comparison left (s .s) (s .e) (c .wrapping-sub-usize .result) (omega arith) (omega arith) (omega arith) (c .wrapping-sub-usize .ensures)
+    ap (λ (n : ℕ). leb n (c .wrapping-sub-usize .result)) is
+    ∙ one-comparison left (s .s) (s .e) (c .wrapping-sub-usize .result) (omega arith) (omega arith) (omega arith)
+    (c .wrapping-sub-usize .ensures)
 
 pub no-run-spec : {M : Type 1} → statement M
 no-run-spec = tie.close (tie.spec add-wrapping-sub-usize wrapping-sub-usize-requires returns)

@@ -1,4 +1,5 @@
--- `words_sound` meets its contract. The loop's invariant: the lines before i are sound, with a runs, of which `nonroots` are not their own parents.
+-- `words_sound` meets its contract. The loop's invariant: the lines before i are sound, with a runs, of which `nonroots` are not their own
+-- parents.
 -- Assumes nothing.
 use mathlib.Core.Path.{subst}
 use Prim.Native.Nat.{_+_, _-_}
@@ -6,7 +7,8 @@ use native.Mathlib.Omega.{arith}
 use borrow.Author.Needs.{needs}
 use Rattle.frame.proofs.LineLaws.{most-runs-le}
 use Rattle.sound.specs.Lines.{LineFound}
-use Rattle.sound.proofs.PassLaws.{LinesTo, lines-none, lines-more, line-wrong, line-ready, line-unsound, joins-few, answer-false, answer}
+use Rattle.sound.proofs.PassLaws.{LinesTo, lines-none, lines-more, line-wrong, line-ready, line-unsound, joins-few, answer-false}
+use Rattle.sound.proofs.PassLaws.{answer}
 use Rattle.sound.proofs.words_sound.Statement.{statement}
 use Rattle.sound.proofs.words_sound.Tie as tie
 
@@ -44,13 +46,25 @@ add-if2 : tie.Need-add-if2 Inv-loop μ-loop
 add-if2 c =
     let l = c .before .before in
     let s = c .before .before .before .before .before .before .before in
-    omega (arith, c .shared-slice-known3 .given (l .loop .i), l .loop .inv .sound .last, l .before .most-runs .ensures, most-runs-le (s .args .g .left) (s .args .g .width), s .pre .short)
+    omega (
+      arith,
+      c .shared-slice-known3 .given (l .loop .i),
+      l .loop .inv .sound .last,
+      l .before .most-runs .ensures,
+      most-runs-le (s .args .g .left) (s .args .g .width),
+      s .pre .short,
+    )
 
 returns-2 : tie.Need-returns-2 Inv-loop μ-loop
-returns-2 c = let l = c .before .before .before in answer-false _ _ _ _ _ _ _ (line-wrong _ _ _ _ (l .before .most-runs .ensures) (l .loop .inv) (omega arith) (c .if2 .taken))
+returns-2 c =
+    let l = c .before .before .before in
+    answer-false _ _ _ _ _ _ _ (line-wrong _ _ _ _ (l .before .most-runs .ensures) (l .loop .inv) (omega arith) (c .if2 .taken))
 
 line-sound-requires : tie.Need-line-sound-requires Inv-loop μ-loop
-line-sound-requires c κs = let l = c .before .before .before in line-ready _ _ _ _ (l .before .most-runs .ensures) (l .loop .inv) (omega arith) (c .if2 .left) (c .before .before .before .before .before .before .before .before .pre)
+line-sound-requires c κs =
+    let l = c .before .before .before in
+    line-ready _ _ _ _ (l .before .most-runs .ensures) (l .loop .inv) (omega arith) (c .if2 .left)
+    (c .before .before .before .before .before .before .before .before .pre)
 
 enum-known-more : tie.Need-enum-known-more Inv-loop μ-loop
 enum-known-more c = search needs
@@ -58,11 +72,17 @@ enum-known-more c = search needs
 loop-again : tie.Need-loop-again Inv-loop μ-loop
 loop-again c =
     let l = c .before .before .before .before .before .before .before in
-    lines-more _ _ _ _ (l .before .most-runs .ensures) (l .loop .inv) (omega arith) _ (c .before .before .before .before .if2 .left) (subst (LineFound _ _ _ _ _ _) (c .before .more .given .1) (c .before .before .before .line-sound .ensures))
+    lines-more _ _ _ _ (l .before .most-runs .ensures) (l .loop .inv) (omega arith) _ (c .before .before .before .before .if2 .left)
+    (subst (LineFound _ _ _ _ _ _) (c .before .more .given .1) (c .before .before .before .line-sound .ensures))
 
 -- no more of them than runs
 add-nonroots : tie.Need-add-nonroots Inv-loop μ-loop
-add-nonroots c = omega (arith, joins-few _ _ _ _ (loop-again c), c .before .before .before .before .before .shared-slice-known3 .given (c .before .before .before .before .before .before .before .loop .i + 1))
+add-nonroots c = omega (
+  arith,
+  joins-few _ _ _ _ (loop-again c),
+  c .before .before .before .before .before .shared-slice-known3 .given
+      (c .before .before .before .before .before .before .before .loop .i + 1),
+)
 
 add-i : tie.Need-add-i Inv-loop μ-loop
 add-i c = search needs
@@ -76,7 +96,8 @@ enum-told c = search needs
 returns-3 : tie.Need-returns-3 Inv-loop μ-loop
 returns-3 c =
     let l = c .before .before .before .before .before .before in
-    answer-false _ _ _ _ _ _ _ (line-unsound _ _ _ _ (l .before .most-runs .ensures) (l .loop .inv) (omega arith) (subst (LineFound _ _ _ _ _ _) (c .enum-told .given .1) (c .before .before .line-sound .ensures)))
+    answer-false _ _ _ _ _ _ _ (line-unsound _ _ _ _ (l .before .most-runs .ensures) (l .loop .inv) (omega arith)
+    (subst (LineFound _ _ _ _ _ _) (c .enum-told .given .1) (c .before .before .line-sound .ensures)))
 
 returns-4 : tie.Need-returns-4 Inv-loop μ-loop
 returns-4 c = answer _ _ _ _ _ _ _ (c .before .loop .inv) (omega arith)

@@ -16,7 +16,8 @@ cast-result-2 : tie.Need-cast-result-2
 cast-result-2 c = search needs
 
 returns : tie.Need-returns
-returns c = rw (off-back (c .args .hi) (c .pre)) (test-le-left (c .args .e) (c .args .cs) (c .args .hi) (omega arith) (omega arith) (c .pre))
+returns c =
+    rw (off-back (c .args .hi) (c .pre)) (test-le-left (c .args .e) (c .args .cs) (c .args .hi) (omega arith) (omega arith) (c .pre))
 
 pub ends-by-spec : {M : Type 1} → statement M
 ends-by-spec = tie.close (tie.spec cast-result add-result cast-result-2 returns)

@@ -36,7 +36,8 @@ same-length c = search needs
 returns-2 : tie.Need-returns-2
 returns-2 c =
     let s = c .before .before .before .before .before .before .before .before .before .before .before in
-    link-widened (s .pre) (s .args .by) (c .before .before .before .before .before .before .if2 .taken) (byte-wide (s .args .by .next)) (byte-wide (s .args .by .prev)) (c .before .before .sweep .ensures)
+    link-widened (s .pre) (s .args .by) (c .before .before .before .before .before .before .if2 .taken) (byte-wide (s .args .by .next))
+    (byte-wide (s .args .by .prev)) (c .before .before .sweep .ensures)
 
 sweep-shift-requires : tie.Need-sweep-shift-requires
 sweep-shift-requires c κs = search needs
@@ -48,7 +49,8 @@ add-joins c = search needs
 abbrev Met : Type 0
 Met = lts.Joined3 (sweep-reads.Asked, sweep-reads.Learnt, sweep-shift-reads.Asked, sweep-shift-reads.Learnt) reads.Pre reads.Post
 
-first : (c : Met) → let s = c .before .before .before .before .before .before in Side (s .pre) (c .if3 .p) (s .args .by .prev) 0 2 (c .if3 .joins)
+first : (c : Met)
+    → let s = c .before .before .before .before .before .before in Side (s .pre) (c .if3 .p) (s .args .by .prev) 0 2 (c .if3 .joins)
 first c =
     let s = c .before .before .before .before .before .before in
     elim (c .if3 .came) [
@@ -65,7 +67,8 @@ returns-3 : tie.Need-returns-3
 returns-3 c =
     let s = c .before .before .before .before .before .before .before .before .before .before .before .before in
     let m = c .before .before .before .before .before .before in
-    linked-both (s .pre) (s .args .by) (m .before .if2 .left) (first m) (c .before .before .before .before .before .if4 .taken) (c .before .before .before .sweep-shift2 .ensures)
+    linked-both (s .pre) (s .args .by) (m .before .if2 .left) (first m) (c .before .before .before .before .before .if4 .taken)
+    (c .before .before .before .sweep-shift2 .ensures)
 
 -- no more joins than runs
 add-joins-2 : tie.Need-add-joins-2

@@ -47,7 +47,8 @@ starts-before-requires : tie.Need-starts-before-requires Inv-loop μ-loop
 starts-before-requires c κs = let s = c .before .before .before .before .before in off-le (s .args .lo) (s .pre .is-lo)
 
 unite-requires : tie.Need-unite-requires Inv-loop μ-loop
-unite-requires c κs = row-parents (c .before .before .before .before .before .before .before .before .pre .parents) (c .before .before .before .before .before .loop .inv) (omega arith)
+unite-requires c κs = row-parents (c .before .before .before .before .before .before .before .before .pre .parents)
+    (c .before .before .before .before .before .loop .inv) (omega arith)
 
 cast-joins : tie.Need-cast-joins Inv-loop μ-loop
 cast-joins c = search needs
@@ -56,7 +57,9 @@ loop-again : tie.Need-loop-again Inv-loop μ-loop
 loop-again c =
     let s = c .before .before .before .before .before .before .before .before .before .before .before in
     let l = c .before .before .before .before .before .before .before .before .loop in
-    row-turn (s .pre .parents) (l .inv) (omega arith) (sym (c .before .before .before .before .before .starts-before .ensures) ∙ c .before .before .before .before .if1 .taken) (c .before .before .unite .ensures)
+    row-turn (s .pre .parents) (l .inv) (omega arith)
+    (sym (c .before .before .before .before .before .starts-before .ensures) ∙ c .before .before .before .before .if1 .taken)
+    (c .before .before .unite .ensures)
 
 -- no more joins than turns
 add-joins : tie.Need-add-joins Inv-loop μ-loop
@@ -76,7 +79,9 @@ same-length c = search needs
 returns : tie.Need-returns Inv-loop μ-loop
 returns c =
     let s = c .before .before .before .before .before .before .before in
-    rw (off-back (s .args .lo) (s .pre .is-lo)) at (row-done (s .pre .parents) (c .before .before .before .before .loop .inv) (s .pre .order) (λ h. sym (c .before .starts-before .ensures) ∙ c .if1 .left))
+    rw (off-back (s .args .lo) (s .pre .is-lo))
+    at (row-done (s .pre .parents) (c .before .before .before .before .loop .inv) (s .pre .order)
+    (λ h. sym (c .before .starts-before .ensures) ∙ c .if1 .left))
 
 same-length-2 : tie.Need-same-length-2 Inv-loop μ-loop
 same-length-2 c = search needs
@@ -84,7 +89,8 @@ same-length-2 c = search needs
 returns-2 : tie.Need-returns-2 Inv-loop μ-loop
 returns-2 c =
     let s = c .before .before .before .before in
-    rw (off-back (s .args .lo) (s .pre .is-lo)) at (row-done (s .pre .parents) (c .before .loop .inv) (s .pre .order) (λ h. absurd (omega arith)))
+    rw (off-back (s .args .lo) (s .pre .is-lo))
+    at (row-done (s .pre .parents) (c .before .loop .inv) (s .pre .order) (λ h. absurd (omega arith)))
 
 pub row-spec : {M : Type 1} → statement M
 row-spec =

@@ -58,7 +58,8 @@ loop-again c = skip-turn (c .before .before .before .before .loop .inv) (omega a
 returns : tie.Need-returns Inv-loop μ-loop
 returns c =
     let s = c .before .before .before .before .before .before .before in
-    rw (off-back (s .args .hi) (s .pre .is-hi)) at (skip-done (c .before .before .before .before .loop .inv) (λ h. sym (c .before .ends-by .ensures) ∙ c .if1 .left))
+    rw (off-back (s .args .hi) (s .pre .is-hi))
+    at (skip-done (c .before .before .before .before .loop .inv) (λ h. sym (c .before .ends-by .ensures) ∙ c .if1 .left))
 
 returns-2 : tie.Need-returns-2 Inv-loop μ-loop
 returns-2 c =

@@ -14,7 +14,10 @@ cast-result : tie.Need-cast-result
 cast-result c = search needs
 
 sub-result : tie.Need-sub-result
-sub-result c = rw (off-back (c .args .lo) (c .pre)) (sum-fits (c .args .s) (negℤ (c .args .lo)) (omega arith) (omega (arith, neg-digit (c .args .lo) (c .pre))))
+sub-result c = rw (off-back (c .args .lo) (c .pre)) (sum-fits (c .args .s) (negℤ (c .args .lo)) (omega arith) (omega (
+  arith,
+  neg-digit (c .args .lo) (c .pre),
+)))
 
 cast-result-2 : tie.Need-cast-result-2
 cast-result-2 c = search needs
@@ -25,7 +28,8 @@ returns c =
     let s = c .args .s in
     let e = c .args .ce in
     let o = c .args .lo in
-    rw (off-back o (c .pre)) (test-lt-left s e (negℤ o) (omega arith) (omega arith) (omega arith) ∙ ltb-same (s + digit (negℤ o)) (e + 1) (s + 1) (e + digit o) (λ q. omega arith) (λ q. omega arith))
+    rw (off-back o (c .pre)) (test-lt-left s e (negℤ o) (omega arith) (omega arith) (omega arith) ∙ ltb-same (s + digit (negℤ o)) (e + 1)
+    (s + 1) (e + digit o) (λ q. omega arith) (λ q. omega arith))
 
 pub starts-before-spec : {M : Type 1} → statement M
 starts-before-spec = tie.close (tie.spec cast-result sub-result cast-result-2 returns)

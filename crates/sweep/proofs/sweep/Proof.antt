@@ -14,7 +14,8 @@ use Rattle.sweep.proofs.sweep.Statement.{statement}
 use Rattle.sweep.proofs.sweep.Tie as tie
 
 abbrev Inv-loop : tie.InvT-loop
-Inv-loop p₀ lo hi cb nb joins₀ j₀ i₀ p joins j i = SweepTo p₀ (digit (toZ w64 lo)) (digit (toZ w64 hi)) (record { ca = i₀; cb = cb; na = j₀; nb = nb }) p i j joins
+Inv-loop p₀ lo hi cb nb joins₀ j₀ i₀ p joins j i =
+    SweepTo p₀ (digit (toZ w64 lo)) (digit (toZ w64 hi)) (record { ca = i₀; cb = cb; na = j₀; nb = nb }) p i j joins
 
 abbrev μ-loop : tie.MeasureT-loop
 μ-loop p₀ lo hi cb nb joins₀ j₀ i₀ p joins j i = cb - i
@@ -34,13 +35,15 @@ row-requires c κs =
     let s = c .before .before .before .before .before .before in
     let x = off-le (s .args .lo) (s .pre .is-lo) in
     let y = off-le (s .args .hi) (s .pre .is-hi) in
-    row-asked (s .pre .lines) (c .before .before .before .before .loop .inv) (omega arith) (c .before .before .before .loop-test .taken) (c .before .skip .ensures)
+    row-asked (s .pre .lines) (c .before .before .before .before .loop .inv) (omega arith) (c .before .before .before .loop-test .taken)
+    (c .before .skip .ensures)
 
 loop-again : tie.Need-loop-again Inv-loop μ-loop
 loop-again c =
     let s = c .before .before .before .before .before .before .before .before .before in
     let l = c .before .before .before .before .before .before .before .loop in
-    sweep-turn (s .pre .lines) (l .inv) (c .before .before .before .before .before .before .loop-test .taken) (c .before .before .before .before .skip .ensures) (c .before .before .row .ensures)
+    sweep-turn (s .pre .lines) (l .inv) (c .before .before .before .before .before .before .loop-test .taken)
+    (c .before .before .before .before .skip .ensures) (c .before .before .row .ensures)
 
 -- no more joins than runs
 add-joins : tie.Need-add-joins Inv-loop μ-loop
@@ -60,7 +63,9 @@ same-length c = search needs
 returns : tie.Need-returns Inv-loop μ-loop
 returns c =
     let s = c .before .before .before in
-    rw (off-back (s .args .lo) (s .pre .is-lo), off-back (s .args .hi) (s .pre .is-hi)) at (sweep-done (s .pre .lines) (c .before .loop .inv) (omega arith))
+    rw (off-back (s .args .lo) (s .pre .is-lo), off-back (s .args .hi) (s .pre .is-hi))
+    at (sweep-done (s .pre .lines) (c .before .loop .inv) (omega arith))
 
 pub sweep-spec : {M : Type 1} → statement M
-sweep-spec = tie.close (tie.spec Inv-loop μ-loop loop-holds skip-requires row-requires add-joins add-i loop-less loop-again same-length returns)
+sweep-spec =
+    tie.close (tie.spec Inv-loop μ-loop loop-holds skip-requires row-requires add-joins add-i loop-less loop-again same-length returns)

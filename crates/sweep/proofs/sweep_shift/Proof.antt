@@ -14,7 +14,11 @@ sweep-requires : tie.Need-sweep-requires
 sweep-requires c κs =
     let s = c .before .before in
     let d = s .args .d in
-    rw (off-back d (s .pre .is-hi)) (record { lines = s .pre .lines; is-lo = omega (arith, negated d (s .pre .is-hi)); is-hi = s .pre .is-hi })
+    rw (off-back d (s .pre .is-hi)) (record {
+      lines = s .pre .lines;
+      is-lo = omega (arith, negated d (s .pre .is-hi));
+      is-hi = s .pre .is-hi;
+    })
 
 same-length : tie.Need-same-length
 same-length c = search needs

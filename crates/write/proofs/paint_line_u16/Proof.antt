@@ -51,7 +51,7 @@ word-requires-3 c κs = let i = c .before .before in (omega arith, run-words u16
 from-u32-requires : tie.Need-from-u32-requires Inv-loop μ-loop
 unfolding largest
 from-u32-requires c κs =
-    let i = c .before .before .before in name-fits u16 (i .before .loop .inv) (i .loop-test .taken) (c .word3 .ensures)
+    let i = c .before .before .before in omega (arith, name-fits u16 (i .before .loop .inv) (i .loop-test .taken) (c .word3 .ensures))
 
 paint-run-u16-requires : tie.Need-paint-run-u16-requires Inv-loop μ-loop
 paint-run-u16-requires c κs =

@@ -4,7 +4,7 @@ use mathlib.Core.Path.{refl}
 use Prim.Native.Nat.{_-_}
 use native.Mathlib.Omega.{arith}
 use borrow.Author.Needs.{needs}
-use Rattle.write.proofs.NameLaws.{now-long}
+use Rattle.names.proofs.NameLaws.{now-long}
 use Rattle.write.proofs.SizeLaws.{SizesTo, sizes-begin, size-asked, size-words, sizes-done}
 use Rattle.write.proofs.SizeLaws.{size-place, size-upward, size-fits, size-turn}
 use Rattle.write.proofs.size_block.Statement.{statement}

@@ -5,7 +5,7 @@ use Prim.Native.Nat.{_-_}
 use native.Mathlib.Omega.{arith}
 use borrow.Author.Needs.{needs}
 use Rattle.frame.specs.Kinds.{u32}
-use Rattle.write.proofs.NameLaws.{now-long}
+use Rattle.names.proofs.NameLaws.{now-long}
 use Rattle.write.proofs.BlockLaws.{LinesTo, lines-begin, fed-room, lent-room, name-asked, paint-asked, lines-turn, lines-done}
 use Rattle.write.proofs.write_block_u32.Statement.{statement}
 use Rattle.write.proofs.write_block_u32.Tie as tie

@@ -2,8 +2,8 @@
 -- Assumes nothing.
 use native.Mathlib.Omega.{arith}
 use borrow.Author.Needs.{needs}
-use Rattle.write.proofs.line_start.Statement.{statement}
-use Rattle.write.proofs.line_start.Tie as tie
+use Rattle.names.proofs.line_start.Statement.{statement}
+use Rattle.names.proofs.line_start.Tie as tie
 
 mul-result : tie.Need-mul-result
 mul-result c = search needs

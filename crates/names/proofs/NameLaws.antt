@@ -22,8 +22,7 @@ use Rattle.frame.specs.Words.{namePlace, lineStart, parentOf, nameOf, storedRun
 use Rattle.frame.proofs.SetLaws.{length-setAll, setAll-other, setAll-at}
 use Rattle.forest.specs.Forest.{rootOf, own, roots, numberIn}
 use Rattle.forest.proofs.ForestLaws.{root-stays, root-le, root-root, root-parent}
-use Rattle.write.specs.Writes.{NamesReady, named}
-use Rattle.write.specs.Steps.{Named, NameReady, LineToName}
+use Rattle.names.specs.Names.{NamesReady, named, Named, NameReady, LineToName}
 
 -- ---- words set again
 

@@ -3,9 +3,9 @@
 use native.Mathlib.Omega.{arith}
 use borrow.Author.Needs.{needs}
 use lib.ListN.{length-set}
-use Rattle.write.proofs.NameLaws.{count-low, parent-low, count-fits, name-turn}
-use Rattle.write.proofs.name_run.Statement.{statement}
-use Rattle.write.proofs.name_run.Tie as tie
+use Rattle.names.proofs.NameLaws.{count-low, parent-low, count-fits, name-turn}
+use Rattle.names.proofs.name_run.Statement.{statement}
+use Rattle.names.proofs.name_run.Tie as tie
 
 word-requires : tie.Need-word-requires
 word-requires c κs = search needs

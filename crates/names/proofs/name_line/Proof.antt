@@ -2,9 +2,9 @@
 -- Assumes nothing.
 use Prim.Native.Nat.{_-_}
 use borrow.Author.Needs.{needs}
-use Rattle.write.proofs.NameLaws.{now-long, NamedTo, line-begins, run-asked, line-turn, line-named}
-use Rattle.write.proofs.name_line.Statement.{statement}
-use Rattle.write.proofs.name_line.Tie as tie
+use Rattle.names.proofs.NameLaws.{now-long, NamedTo, line-begins, run-asked, line-turn, line-named}
+use Rattle.names.proofs.name_line.Statement.{statement}
+use Rattle.names.proofs.name_line.Tie as tie
 
 abbrev Inv-loop : tie.InvT-loop
 Inv-loop words₀ lines line c last named₀ r₀ words named r = NamedTo lines line words₀ c last words named r
