@@ -1,11 +1,12 @@
 -- Accepted calls: what they were given, and what is left for them to promise.
 -- Assumes nothing.
 use mathlib.Core.Path.{_≡_, sym, ap, _∙_, subst}
-use mathlib.Core.Bool.{Bool}
+use mathlib.Core.Bool.{Bool, false}
 use mathlib.Core.List.{List}
 use Prim.Native.Nat.{ℕ, _+_, _-_, _≤_, _<_}
 use native.Mathlib.Omega.{arith}
 use borrow.Author.Tests.{leb-true}
+use lib.Dec.{ltb}
 use lib.ListN.{length}
 use Rattle.frame.specs.Shape.{size, width}
 use Rattle.frame.specs.Kinds.{Number, largest, holds, Value}
@@ -16,6 +17,10 @@ use Rattle.frame.proofs.ShapeLaws.{Fits}
 use Rattle.frame.proofs.CauseLaws.{rank-right, Allowed, open-accepted, feed-accepted, accepted-feed, read-accepted, sizes-accepted}
 use Rattle.frame.proofs.PlainLaws.{unless-none, kept-new}
 use Rattle.geo.proofs.ShapeSoundLaws.{bytes-few}
+use Rattle.causes.specs.declared.Checked.{Checked}
+use Rattle.causes.specs.Cases.{checkNumber}
+use Rattle.causes.specs.Checks.{LentFound}
+use Rattle.causes.proofs.CaseLaws.{passed-none}
 use Rattle.label.specs.declared.Session.{Session}
 use Rattle.label.specs.Record.{shapeOf, linesOf}
 use Rattle.label.specs.Sound.{Sound, sound}
@@ -28,24 +33,44 @@ use Rattle.label.proofs.SoundLaws.{sound-right, right-sound, n-roots}
 
 -- ---- opening
 
-module _ (shape structure ws : List ℕ) (none : 0 ≡ openCause shape structure (length ws)) where
-  given : Allowed shape structure (length ws)
-  given = open-accepted shape structure (length ws) (sym none)
+module _ (shape structure : List ℕ) (memory : ℕ) (none : 0 ≡ openCause shape structure memory) where
+  allowed : Allowed shape structure memory
+  allowed = open-accepted shape structure memory (sym none)
 
   -- there is a word 0, and a record holds the shape and the structure
-  pub open-room : 0 < length ws
+  word : 0 < memory
   unfolding wordsNeeded
-  open-room = omega (arith, given .enough)
+  word = omega (arith, allowed .enough)
 
-  pub open-short : (length shape ≤ 4) × (length structure ≤ 81)
-  open-short = let r = rank-right shape (given .ranked) .1 in (r, rw (given .bytes) (bytes-few (length shape) r))
+  short : (length shape ≤ 4) × (length structure ≤ 81)
+  short = let r = rank-right shape (allowed .ranked) .1 in (r, rw (allowed .bytes) (bytes-few (length shape) r))
 
-  pub accepted-open : (n : ℕ) → n ≡ 0 → (s : Session) → s ≡ openRecord shape structure → OpenPromise shape structure ws n s (openWords ws)
-  accepted-open n said s same = record {
-    said = said ∙ none;
-    session = same ∙ sym (kept-new blank (openRecord shape structure) (openCause shape structure (length ws)) (sym none));
-    words = sym (kept-new ws (openWords ws) (openCause shape structure (length ws)) (sym none));
-  }
+pub open-short : (shape structure ws : List ℕ) → 0 ≡ openCause shape structure (length ws) → (length shape ≤ 4) × (length structure ≤ 81)
+open-short shape structure ws none = short shape structure (length ws) none
+
+-- so where its check passed: t is whether it failed
+module _ (shape structure : List ℕ) (memory : ℕ) {r : Checked} (F : LentFound shape structure (openCause shape structure memory) r)
+    {t : Bool} (is : t ≡ ltb 0 (checkNumber (r .check))) (left : t ≡ false) where
+  no-cause : 0 ≡ openCause shape structure memory
+  no-cause = sym (passed-none (checkNumber (r .check)) t is left) ∙ F .number
+
+  pub passed-word : 0 < memory
+  passed-word = word shape structure memory no-cause
+
+  pub passed-short : (length shape ≤ 4) × (length structure ≤ 81)
+  passed-short = short shape structure memory no-cause
+
+pub passed-open : {shape structure ws : List ℕ} {r : Checked} → LentFound shape structure (openCause shape structure (length ws)) r
+    → {t : Bool} → t ≡ ltb 0 (checkNumber (r .check)) → t ≡ false
+    → {b s : Session} {n : ℕ} → b ≡ openRecord shape structure → (s ≡ b) × (n ≡ checkNumber (r .check))
+    → OpenPromise shape structure ws n s (openWords ws)
+passed-open {shape} {structure} {ws} F is left same A =
+    let none = sym (no-cause shape structure (length ws) F is left) in
+    record {
+      said = A .1 ∙ F .number;
+      session = A .0 ∙ same ∙ sym (kept-new blank (openRecord shape structure) _ none);
+      words = sym (kept-new ws (openWords ws) _ none);
+    }
 
 -- ---- feed
 
@@ -58,14 +83,21 @@ module _ (s : Session) (ws : List ℕ) (k : ℕ) (cells : List Bool) where
 
   pub accepted-cause : FeedAccepted s ws k cells → feedCauseOf s ws k cells ≡ 0
   unfolding feedCauseOf
-  accepted-cause G = rw (right-sound s ws (G .is-sound)) (accepted-feed (linesOf s - s .fed) k (width (shapeOf s)) (length cells) (G .few) (G .whole))
+  accepted-cause G =
+      rw (right-sound s ws (G .is-sound))
+      (accepted-feed (linesOf s - s .fed) k (width (shapeOf s)) (length cells) (G .few) (G .whole))
 
   -- the new cells are those of k lines
   pub accepted-fits : FeedAccepted s ws k cells → Fits (shapeOf s) k cells
-  accepted-fits G = record { ranked = rank-right (shapeOf s) (G .is-sound .shape .ranked) .0; below = omega (arith, G .few); whole = G .whole }
+  accepted-fits G = record {
+    ranked = rank-right (shapeOf s) (G .is-sound .shape .ranked) .0;
+    below = omega (arith, G .few);
+    whole = G .whole;
+  }
 
   -- its record is known, and the words are what is left to promise
-  pub accepted-session : FeedAccepted s ws k cells → (a : Answer) (s′ : Session) (ws′ : List ℕ) → FeedPromise s ws k cells a s′ ws′ → s′ ≡ feedRecord s ws k cells
+  pub accepted-session : FeedAccepted s ws k cells → (a : Answer) (s′ : Session) (ws′ : List ℕ) → FeedPromise s ws k cells a s′ ws′
+      → s′ ≡ feedRecord s ws k cells
   accepted-session G a s′ ws′ P = P .session ∙ kept-new s (feedRecord s ws k cells) (feedCauseOf s ws k cells) (accepted-cause G)
 
   pub accepted-promise : FeedAccepted s ws k cells → (ws′ : List ℕ) → FeedWords s ws k cells ws′
@@ -78,12 +110,14 @@ module _ (s : Session) (ws : List ℕ) (k : ℕ) (cells : List Bool) where
   }
 
   -- it answers the figures of the record that it hands back
-  pub done-promise : FeedAccepted s ws k cells → (s′ : Session) (ws′ : List ℕ) → FeedDone s ws k cells s′ ws′ → (a : Answer) → a ≡ fed (s′ .fed) (s′ .figures) → (s″ : Session) → s″ ≡ s′
-      → FeedPromise s ws k cells a s″ ws′
+  pub done-promise : FeedAccepted s ws k cells → (s′ : Session) (ws′ : List ℕ) → FeedDone s ws k cells s′ ws′
+      → (a : Answer) → a ≡ fed (s′ .fed) (s′ .figures) → (s″ : Session) → s″ ≡ s′ → FeedPromise s ws k cells a s″ ws′
   unfolding feedRecord
   done-promise G s′ ws′ D a said s″ same =
-      subst (λ (x : Answer). FeedPromise s ws k cells x s″ ws′) (sym (said ∙ ap (λ (x : Session). fed (x .fed) (x .figures)) (D .session)))
-      (subst (λ (x : Session). FeedPromise s ws k cells (fed (s .fed + k) (feedRecord s ws k cells .figures)) x ws′) (sym (same ∙ D .session))
+      subst (λ (x : Answer). FeedPromise s ws k cells x s″ ws′)
+      (sym (said ∙ ap (λ (x : Session). fed (x .fed) (x .figures)) (D .session)))
+      (subst (λ (x : Session). FeedPromise s ws k cells (fed (s .fed + k) (feedRecord s ws k cells .figures)) x ws′)
+      (sym (same ∙ D .session))
       (accepted-promise G ws′ (D .words)))
 
 -- ---- reading, sizes
@@ -96,10 +130,13 @@ module _ (kind : Number) (s : Session) (ws : List ℕ) where
       record { is-sound = sound-right s ws (h .0); places = h .1; fits = leb-true (rootCount s ws) (largest kind) (h .2) }
 
   -- it answers n as runs - joins
-  pub read-promise : (out : List (Value kind)) → readCauseOf kind s ws (length out) ≡ 0 → (ws′ : List ℕ) (out′ : List (Value kind)) → (ws′ ≡ withNames s ws) × (out′ ≡ numbersHeld s ws kind)
-      → (a : Answer) → a ≡ counted (s .figures .runs - s .figures .joins) (s .figures) → (s′ : Session) → s′ ≡ s → ReadPromise kind s ws out a s′ ws′ out′
+  pub read-promise : (out : List (Value kind)) → readCauseOf kind s ws (length out) ≡ 0 → (ws′ : List ℕ) (out′ : List (Value kind))
+      → (ws′ ≡ withNames s ws) × (out′ ≡ numbersHeld s ws kind)
+      → (a : Answer) → a ≡ counted (s .figures .runs - s .figures .joins) (s .figures) → (s′ : Session) → s′ ≡ s
+      → ReadPromise kind s ws out a s′ ws′ out′
   read-promise out e ws′ out′ W a said s′ same = record {
-    said = said ∙ ap (λ (n : ℕ). counted n (s .figures)) (sym (n-roots s ws (cause-read (length out) e .is-sound))) ∙ sym (unless-none (readCauseOf kind s ws (length out)) (countedOf s ws) e);
+    said = said ∙ ap (λ (n : ℕ). counted n (s .figures)) (sym (n-roots s ws (cause-read (length out) e .is-sound)))
+        ∙ sym (unless-none (readCauseOf kind s ws (length out)) (countedOf s ws) e);
     session = same;
     words = W .0 ∙ sym (kept-new ws (withNames s ws) (readCauseOf kind s ws (length out)) e);
     output = W .1 ∙ sym (kept-new out (numbersHeld s ws kind) (readCauseOf kind s ws (length out)) e);
@@ -110,10 +147,13 @@ module _ (s : Session) (ws : List ℕ) where
   unfolding sizesCauseOf
   cause-sizes out e = let h = sizes-accepted (sound s ws) out (rootCount s ws) e in (sound-right s ws (h .0), h .1)
 
-  pub sizes-promise : (out : List ℕ) → sizesCauseOf s ws (length out) ≡ 0 → (ws′ out′ : List ℕ) → (ws′ ≡ withNames s ws) × (out′ ≡ sizesHeld s ws)
-      → (a : Answer) → a ≡ counted (s .figures .runs - s .figures .joins) (s .figures) → (s′ : Session) → s′ ≡ s → SizesPromise s ws out a s′ ws′ out′
+  pub sizes-promise : (out : List ℕ) → sizesCauseOf s ws (length out) ≡ 0 → (ws′ out′ : List ℕ)
+      → (ws′ ≡ withNames s ws) × (out′ ≡ sizesHeld s ws)
+      → (a : Answer) → a ≡ counted (s .figures .runs - s .figures .joins) (s .figures) → (s′ : Session) → s′ ≡ s
+      → SizesPromise s ws out a s′ ws′ out′
   sizes-promise out e ws′ out′ W a said s′ same = record {
-    said = said ∙ ap (λ (n : ℕ). counted n (s .figures)) (sym (n-roots s ws (cause-sizes (length out) e .0))) ∙ sym (unless-none (sizesCauseOf s ws (length out)) (countedOf s ws) e);
+    said = said ∙ ap (λ (n : ℕ). counted n (s .figures)) (sym (n-roots s ws (cause-sizes (length out) e .0)))
+        ∙ sym (unless-none (sizesCauseOf s ws (length out)) (countedOf s ws) e);
     session = same;
     words = W .0 ∙ sym (kept-new ws (withNames s ws) (sizesCauseOf s ws (length out)) e);
     output = W .1 ∙ sym (kept-new out (sizesHeld s ws) (sizesCauseOf s ws (length out)) e);

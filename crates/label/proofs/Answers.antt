@@ -18,23 +18,38 @@ use Rattle.label.specs.Cases.{openNumber, feedAnswer, readAnswer}
 use Rattle.label.specs.Opening.{openRecord, blank}
 use Rattle.label.specs.WholeFrame.{chop, blockLines, blocks}
 use Rattle.label.proofs.CallFunctions.{FeedResult, ReadResult, doOpen, doFeed, doRead, doSizes, doFrame}
-use Rattle.label.proofs.Worked.{computed, frame, cross, memory, line, whole, f, begun, one, two, three, junk, wide, wideWords, put, held}
+use Rattle.label.proofs.Worked.{computed, frame, cross, memory, line, whole, f, begun, one, two, three, junk, wide, wideWords, put}
+use Rattle.label.proofs.Worked.{held}
 
 -- ---- document 01's numbers and values
 
-numbers-right : map causeNumber (C.Rank ∷ C.StructureLength ∷ C.ZeroDimension ∷ C.TooLarge ∷ C.Memory ∷ C.Unsound ∷ C.Lines ∷ C.Cells ∷ C.Length ∷ C.Kind ∷ []) ≡ 1 ∷ 2 ∷ 3 ∷ 4 ∷ 5 ∷ 6 ∷ 7 ∷ 8 ∷ 9 ∷ 10 ∷ []
+numbers-right : map causeNumber (C.Rank ∷ C.StructureLength ∷ C.ZeroDimension ∷ C.TooLarge ∷ C.Memory ∷ C.Unsound ∷ C.Lines ∷ C.Cells
+    ∷ C.Length ∷ C.Kind ∷ []) ≡ 1 ∷ 2 ∷ 3 ∷ 4 ∷ 5 ∷ 6 ∷ 7 ∷ 8 ∷ 9 ∷ 10 ∷ []
 numbers-right = refl
 
 openings-right : map openNumber (O.Accepted ∷ O.Refused C.Memory ∷ []) ≡ 0 ∷ 5 ∷ []
 openings-right = refl
 
 -- a feed's lines fed, runs and joins; a reading's n, runs and joins
-cases-right : feedAnswer (F.Accepted 3 (f 5 4)) ∷ feedAnswer (F.Refused C.Lines) ∷ readAnswer (R.Accepted 1 (f 5 4)) ∷ readAnswer (R.Refused C.Kind) ∷ [] ≡ fed 3 (f 5 4) ∷ refused 7 ∷ counted 1 (f 5 4) ∷ refused 10 ∷ []
+cases-right : feedAnswer (F.Accepted 3 (f 5 4)) ∷ feedAnswer (F.Refused C.Lines) ∷ readAnswer (R.Accepted 1 (f 5 4)) ∷ readAnswer
+    (R.Refused C.Kind) ∷ [] ≡ fed 3 (f 5 4) ∷ refused 7 ∷ counted 1 (f 5 4) ∷ refused 10 ∷ []
 cases-right = refl
 
 -- ---- document 01's frame 1, fed line by line
 
-opens-right : begun ≡ record { number = 0; session = record { rank = 2; shape = 3 ∷ 3 ∷ 0 ∷ 0 ∷ []; structure = cross ++ replicate 72 0; fed = 0; figures = record { runs = 0; joins = 0 } }; words = 0 ∷ replicate 27 7 }
+opens-right : begun
+    ≡ record {
+      number = 0;
+      session = record {
+        rank = 2;
+        shape = 3 ∷ 3 ∷ 0 ∷ 0 ∷ [];
+        structure = cross ++ replicate 72 0;
+        fed = 0;
+        figures =
+            record { runs = 0; joins = 0 };
+      };
+      words = 0 ∷ replicate 27 7;
+    }
 unfolding begun computed
 opens-right = refl
 
@@ -43,7 +58,8 @@ unfolding begun one two three computed
 answers-right = refl
 
 -- four line starts, then start, end, parent and name of each run; no name is written
-words-right : three .words ≡ 0 ∷ 2 ∷ 4 ∷ 5 ∷ 0 ∷ 1 ∷ 0 ∷ 7 ∷ 2 ∷ 3 ∷ 0 ∷ 7 ∷ 0 ∷ 1 ∷ 0 ∷ 7 ∷ 2 ∷ 3 ∷ 0 ∷ 7 ∷ 0 ∷ 3 ∷ 0 ∷ 7 ∷ 7 ∷ 7 ∷ 7 ∷ 7 ∷ []
+words-right : three .words
+    ≡ 0 ∷ 2 ∷ 4 ∷ 5 ∷ 0 ∷ 1 ∷ 0 ∷ 7 ∷ 2 ∷ 3 ∷ 0 ∷ 7 ∷ 0 ∷ 1 ∷ 0 ∷ 7 ∷ 2 ∷ 3 ∷ 0 ∷ 7 ∷ 0 ∷ 3 ∷ 0 ∷ 7 ∷ 7 ∷ 7 ∷ 7 ∷ 7 ∷ []
 unfolding begun one two three computed
 words-right = refl
 
@@ -103,7 +119,11 @@ unsound : List (Session × List ℕ)
 unsound =
     -- rank 0, rank 5
     (blank, replicate 28 0)
-    ∷ (record { rank = 5; shape = replicate 4 1; structure = replicate 81 0; fed = 0; figures = record { runs = 0; joins = 0 } }, replicate 28 0)
+    ∷ (
+      record { rank = 5; shape = replicate 4 1; structure = replicate 81 0; fed = 0; figures = record { runs = 0; joins = 0 } },
+      replicate
+          28 0,
+    )
     -- a leading dimension is 0
     ∷ (openRecord (0 ∷ 3 ∷ []) cross, replicate 28 0)
     -- w and L at their limits, L × w one above
@@ -154,7 +174,16 @@ accepted =
     ∷ (two .session, set (put 3 9) 20 9)
     ∷ (two .session, two .words ++ replicate 5 9)
     -- entries past the rank
-    ∷ (record { rank = 2; shape = 3 ∷ 3 ∷ 9 ∷ 9 ∷ []; structure = cross ++ replicate 72 9; fed = 2; figures = record { runs = 4; joins = 2 } }, two .words)
+    ∷ (
+      record {
+        rank = 2;
+        shape = 3 ∷ 3 ∷ 9 ∷ 9 ∷ [];
+        structure = cross ++ replicate 72 9;
+        fed = 2;
+        figures = record { runs = 4; joins = 2 };
+      },
+      two .words,
+    )
     -- runs 0 and 1 in one group, which no chain joins; and longer ways to a root
     ∷ (held 2 4 3, put 10 0)
     ∷ (held 2 4 3, set (put 10 0) 18 2)
@@ -179,7 +208,8 @@ other = doFeed (held 2 4 3) (put 10 0) 1 line
 otherRead : ReadResult ℕ
 otherRead = doRead u8 (other .session) (other .words) junk
 
-other-right : (other .said ∷ otherRead .said ∷ [] ≡ fed 3 (f 6 5) ∷ counted 1 (f 6 5) ∷ []) × (otherRead .out ≡ 1 ∷ 0 ∷ 1 ∷ 1 ∷ 0 ∷ 1 ∷ 1 ∷ 0 ∷ 1 ∷ [])
+other-right : (other .said ∷ otherRead .said ∷ [] ≡ fed 3 (f 6 5) ∷ counted 1 (f 6 5) ∷ [])
+    × (otherRead .out ≡ 1 ∷ 0 ∷ 1 ∷ 1 ∷ 0 ∷ 1 ∷ 1 ∷ 0 ∷ 1 ∷ [])
 unfolding other otherRead begun one two computed
 other-right = (refl, refl)
 
@@ -226,6 +256,7 @@ unfolding inBlocks atOnce show computed
 blocks-right = refl
 
 -- seven lines in three blocks and in four; 0 counts as 1, above L as L; ⌈9/6⌉ is 2, so five blocks are enough
-blocks-are : blocks 7 3 ∷ blocks 7 4 ∷ blocks 5 0 ∷ blocks 3 9 ∷ blocks 9 6 ∷ [] ≡ (3 ∷ 3 ∷ 1 ∷ []) ∷ (2 ∷ 2 ∷ 2 ∷ 1 ∷ []) ∷ (5 ∷ []) ∷ (1 ∷ 1 ∷ 1 ∷ []) ∷ (2 ∷ 2 ∷ 2 ∷ 2 ∷ 1 ∷ []) ∷ []
+blocks-are : blocks 7 3 ∷ blocks 7 4 ∷ blocks 5 0 ∷ blocks 3 9 ∷ blocks 9 6 ∷ []
+    ≡ (3 ∷ 3 ∷ 1 ∷ []) ∷ (2 ∷ 2 ∷ 2 ∷ 1 ∷ []) ∷ (5 ∷ []) ∷ (1 ∷ 1 ∷ 1 ∷ []) ∷ (2 ∷ 2 ∷ 2 ∷ 2 ∷ 1 ∷ []) ∷ []
 unfolding blocks blockLines chop
 blocks-are = refl

@@ -48,16 +48,23 @@ module _ (s : Session) (ws : List ℕ) (S : Sound s ws) where
   H = sound-stores s ws S
 
   -- the runs of the cells
-  O : Onto (nonzero cells) (Step shape structure cells) (size shape) (RunStep shape structure cells) (s .figures .runs) (runOf shape structure cells) start
-  O = subst (λ (n : ℕ). Onto (nonzero cells) (Step shape structure cells) (size shape) (RunStep shape structure cells) n (runOf shape structure cells) start) (sym (runs-held s ws S)) (runs-onto shape structure cells (fits-size shape (s .fed) cells (H .fits)))
+  O : Onto (nonzero cells) (Step shape structure cells) (size shape) (RunStep shape structure cells) (s .figures .runs)
+      (runOf shape structure cells) start
+  O = subst (λ (n : ℕ). Onto (nonzero cells) (Step shape structure cells) (size shape) (RunStep shape structure cells) n
+      (runOf shape structure cells) start) (sym (runs-held s ws S))
+      (runs-onto shape structure cells (fits-size shape (s .fed) cells (H .fits)))
 
   -- the run that holds the cell where run r starts is r
   start-held : (r : ℕ) → r < s .figures .runs → holderOf s ws (start r) ≡ r
   start-held r h = stores-holder s ws cells H (start r) (O .start-live r h) ∙ O .run-start r h
 
   ends : (r t : ℕ) → Joined es r t → (r < s .figures .runs) × (t < s .figures .runs)
-  ends r t (inl m) = mem-ends (λ r. r < s .figures .runs) es (grouping-ends (parentOf (linesOf s) ws) (s .figures .runs) (S .words .parents)) _ m
-  ends r t (inr m) = let e = mem-ends (λ r. r < s .figures .runs) es (grouping-ends (parentOf (linesOf s) ws) (s .figures .runs) (S .words .parents)) _ m in (e .1, e .0)
+  ends r t (inl m) =
+      mem-ends (λ r. r < s .figures .runs) es (grouping-ends (parentOf (linesOf s) ws) (s .figures .runs) (S .words .parents)) _ m
+  ends r t (inr m) =
+      let e = mem-ends (λ r. r < s .figures .runs) es (grouping-ends (parentOf (linesOf s) ws) (s .figures .runs) (S .words .parents)) _
+      m in
+      (e .1, e .0)
 
   flip : (p q : ℕ) → HeldStep s ws p q → HeldStep s ws q p
   flip p q t = record { here = t .there; there = t .here; way = go (t .way) }
@@ -71,7 +78,8 @@ module _ (s : Session) (ws : List ℕ) (S : Sound s ws) where
   down : (p q : ℕ) → HeldStep s ws p q → Chain (Joined es) (holderOf s ws p) (holderOf s ws q)
   down p q t = go (t .way)
     where
-      go : (holderOf s ws p ≡ holderOf s ws q) ⊎ Joined es (holderOf s ws p) (holderOf s ws q) → Chain (Joined es) (holderOf s ws p) (holderOf s ws q)
+      go : (holderOf s ws p ≡ holderOf s ws q) ⊎ Joined es (holderOf s ws p) (holderOf s ws q)
+          → Chain (Joined es) (holderOf s ws p) (holderOf s ws q)
       go (inl e) = subst (λ (r : ℕ). Chain (Joined es) (holderOf s ws p) r) e one
       go (inr j) = more j one
 
@@ -89,7 +97,12 @@ module _ (s : Session) (ws : List ℕ) (S : Sound s ws) where
     start-live = O .start-live;
     run-start = start-held;
     start-first = λ p h a. rw (stores-holder s ws cells H p a) (O .start-first p h a);
-    start-chain = λ p h a. more (record { here = a; there = O .start-live (holderOf s ws p) (below p a); way = inl (sym (start-held (holderOf s ws p) (below p a))) }) one;
+    start-chain = λ p h a. more (record {
+      here = a;
+      there = O .start-live (holderOf s ws p) (below p a);
+      way = inl
+          (sym (start-held (holderOf s ws p) (below p a)));
+    }) one;
     start-mono = O .start-mono;
     down = down;
     lift = lift;
@@ -103,7 +116,9 @@ module _ (s : Session) (ws : List ℕ) (S : Sound s ws) where
   number-held p h = go (nonzero cells p) refl
     where
       by-root : nonzero cells p ≡ true → number (λ r. true) es (holderOf s ws p) ≡ numberIn (parentOf (linesOf s) ws) (holderOf s ws p)
-      by-root a = sym (number-groups (parentOf (linesOf s) ws) (s .figures .runs) (S .words .parents) es (λ r l. sym (grouping-rep (parentOf (linesOf s) ws) (s .figures .runs) (S .words .parents) r l)) (holderOf s ws p) (rw (stores-holder s ws cells H p a) (stores-below s ws cells H p a)))
+      by-root a = sym (number-groups (parentOf (linesOf s) ws) (s .figures .runs) (S .words .parents) es
+          (λ r l. sym (grouping-rep (parentOf (linesOf s) ws) (s .figures .runs) (S .words .parents) r l)) (holderOf s ws p)
+          (rw (stores-holder s ws cells H p a) (stores-below s ws cells H p a)))
 
       go : (b : Bool) → nonzero cells p ≡ b → cond (nonzero cells p) (number (λ r. true) es (holderOf s ws p)) 0 ≡ numberAt s ws p
       go true a = unfold numberAt in rw (a, by-root a) refl
@@ -113,5 +128,6 @@ module _ (s : Session) (ws : List ℕ) (S : Sound s ws) where
   pub any-numbered : Numbered (nonzero (cellsOf s ws)) (HeldStep s ws) (size (shapeOf s)) (rootCount s ws) (numberAt s ws)
   any-numbered =
       numbered-same _ (numberAt s ws) number-held
-      (subst (λ (n : ℕ). Numbered (nonzero cells) (HeldStep s ws) (size shape) n (λ p. cond (nonzero cells p) (number (λ r. true) es (holderOf s ws p)) 0)) (sym (n-groups s ws S))
+      (subst (λ (n : ℕ). Numbered (nonzero cells) (HeldStep s ws) (size shape) n
+      (λ p. cond (nonzero cells p) (number (λ r. true) es (holderOf s ws p)) 0)) (sym (n-groups s ws S))
       (by-runs held-onto _ _ (number-right (λ r. true) es (all-live es) (s .figures .runs))))

@@ -32,12 +32,18 @@ line-short l i = short-singles l 0 i
 -- ---- in order
 
 -- from what is asked of each run and of each two neighbours
-pub apart-from : (rs : List Run) (gap lo w : ℕ) → (0 < length rs → lo ≤ getD rs 0 none .start) → ((i : ℕ) → i < length rs → Within w (getD rs i none))
+pub apart-from : (rs : List Run) (gap lo w : ℕ) → (0 < length rs → lo ≤ getD rs 0 none .start)
+    → ((i : ℕ) → i < length rs → Within w (getD rs i none))
     → ((i : ℕ) → suc i < length rs → getD rs i none .end + gap ≤ getD rs (suc i) none .start) → Apart gap lo w rs
 apart-from [] gap lo w first within next = tt
 apart-from (r ∷ rs) gap lo w first within next =
-    let k = within 0 (omega arith) in
-    (first (omega arith), k .full, k .fits, apart-from rs gap (r .end + gap) w (λ h. next 0 (omega arith)) (λ i h. within (suc i) (omega arith)) (λ i h. next (suc i) (omega arith)))
+    let k = within 0 (omega arith) in (
+      first (omega arith),
+      k .full,
+      k .fits,
+      apart-from rs gap (r .end + gap) w (λ h. next 0 (omega arith))
+          (λ i h. within (suc i) (omega arith)) (λ i h. next (suc i) (omega arith)),
+    )
 
 in-low : (rs : List Run) (gap lo w i x : ℕ) → Apart gap lo w rs → In rs i x → lo ≤ x
 in-low rs gap lo w i x a h = let k = apart-low rs gap lo w i a (in-below rs i x h) in omega (arith, h .0)
@@ -49,9 +55,12 @@ abbrev Held : List Run → ℕ → Type 0
 Held rs x = (i : ℕ) × In rs i x
 
 -- of two lists in order, where the second covers each column that the first does: their first runs, and the rests
-module _ (gap w lo lo′ : ℕ) (r r′ : Run) (rs rs′ : List Run) (a : Apart gap lo w (r ∷ rs)) (a′ : Apart gap lo′ w (r′ ∷ rs′)) (more : (x : ℕ) → Held (r ∷ rs) x → Held (r′ ∷ rs′) x) where
+module _ (gap w lo lo′ : ℕ) (r r′ : Run) (rs rs′ : List Run) (a : Apart gap lo w (r ∷ rs)) (a′ : Apart gap lo′ w (r′ ∷ rs′))
+    (more : (x : ℕ) → Held (r ∷ rs) x → Held (r′ ∷ rs′) x) where
   first-start : r′ .start ≤ r .start
-  first-start = let k = more (r .start) (0, (le-refl (r .start), a .1)) in in-low (r′ ∷ rs′) gap (r′ .start) w (k .0) (r .start) (le-refl (r′ .start), a′ .1, a′ .2, a′ .3) (k .1)
+  first-start =
+      let k = more (r .start) (0, (le-refl (r .start), a .1)) in
+      in-low (r′ ∷ rs′) gap (r′ .start) w (k .0) (r .start) (le-refl (r′ .start), a′ .1, a′ .2, a′ .3) (k .1)
 
   first-end : (gap ≡ 0 → Short r) → r .start ≡ r′ .start → r .end ≤ r′ .end
   first-end short e = go (eqb gap 0) refl (ltb (r′ .end) (r .end)) refl
@@ -77,16 +86,22 @@ apart-only : (gap w lo lo′ : ℕ) (rs rs′ : List Run) → Apart gap lo w rs 
     → (gap ≡ 0 → (i : ℕ) → i < length rs → Short (getD rs i none)) → (gap ≡ 0 → (i : ℕ) → i < length rs′ → Short (getD rs′ i none))
     → ((x : ℕ) → Held rs x → Held rs′ x) → ((x : ℕ) → Held rs′ x → Held rs x) → rs ≡ rs′
 apart-only gap w lo lo′ [] [] a a′ s s′ more less = refl
-apart-only gap w lo lo′ [] (r′ ∷ rs′) a a′ s s′ more less = absurd (not-suc-le-zero (less (r′ .start) (0, (le-refl (r′ .start), a′ .1)) .1 .1))
+apart-only gap w lo lo′ [] (r′ ∷ rs′) a a′ s s′ more less =
+    absurd (not-suc-le-zero (less (r′ .start) (0, (le-refl (r′ .start), a′ .1)) .1 .1))
 apart-only gap w lo lo′ (r ∷ rs) [] a a′ s s′ more less = absurd (not-suc-le-zero (more (r .start) (0, (le-refl (r .start), a .1)) .1 .1))
 apart-only gap w lo lo′ (r ∷ rs) (r′ ∷ rs′) a a′ s s′ more less =
-    let x : r .start ≡ r′ .start = omega (arith, first-start gap w lo lo′ r r′ rs rs′ a a′ more, first-start gap w lo′ lo r′ r rs′ rs a′ a less) in
+    let x : r .start ≡ r′ .start = omega (
+      arith,
+      first-start gap w lo lo′ r r′ rs rs′ a a′ more,
+      first-start gap w lo′ lo r′ r rs′ rs a′ a less,
+    ) in
     let y = first-end gap w lo lo′ r r′ rs rs′ a a′ more (λ g. s g 0 (omega arith)) x in
     let z = first-end gap w lo′ lo r′ r rs′ rs a′ a less (λ g. s′ g 0 (omega arith)) (sym x) in
     let e : r .end ≡ r′ .end = omega arith in
     let first : r ≡ r′ = ap₂ (λ (m : ℕ) (n : ℕ). record { start = m; end = n }) x e in
     ap₂ (λ (u : Run) (us : List Run). u ∷ us) first
-    (apart-only gap w (r .end + gap) (r′ .end + gap) rs rs′ (a .3) (a′ .3) (λ g i l. s g (suc i) (omega arith)) (λ g i l. s′ g (suc i) (omega arith)) (rest-more gap w lo lo′ r r′ rs rs′ a a′ more z) (rest-more gap w lo′ lo r′ r rs′ rs a′ a less y))
+    (apart-only gap w (r .end + gap) (r′ .end + gap) rs rs′ (a .3) (a′ .3) (λ g i l. s g (suc i) (omega arith))
+    (λ g i l. s′ g (suc i) (omega arith)) (rest-more gap w lo lo′ r r′ rs rs′ a a′ more z) (rest-more gap w lo′ lo r′ r rs′ rs a′ a less y))
 
 -- in order, one column long with the left byte zero, and covering the nonzero columns alone and all: such are the runs of the line
 pub line-only : (left : Bool) (l : List Bool) (w : ℕ) (rs : List Run) → length l ≤ w → Apart (gapOf left) 0 w rs

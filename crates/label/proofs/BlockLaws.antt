@@ -33,12 +33,15 @@ use Rattle.label.proofs.AcceptedLaws.{accepted-cause, accepted-session}
 use Rattle.label.proofs.StoreLaws.{Stores}
 use Rattle.label.proofs.SoundCells.{sound-stores}
 use Rattle.label.proofs.FeedWordLaws.{Aside, Wrote, wrote-others}
-use Rattle.label.proofs.FeedLaws.{feed-shape, fits-all, runs-after, start-after, run-after, touches-after, room, room-lines, written, stores-after, edges-ends, joins-after, sound-after}
+use Rattle.label.proofs.FeedLaws.{feed-shape, fits-all, runs-after, start-after, run-after, touches-after, room, room-lines, written}
+use Rattle.label.proofs.FeedLaws.{stores-after, edges-ends, joins-after, sound-after}
 use Rattle.label.proofs.FeedNoneLaws.{words-none, record-none}
 
 -- two feeds that are accepted: k lines of a sound record, and then j lines
-module _ (s : Session) (ws : List ℕ) (S : Sound s ws) (k : ℕ) (more : List Bool) (few : k ≤ linesOf s - s .fed) (whole : length more ≡ k * width (shapeOf s)) (ws₁ : List ℕ) (W : FeedWords s ws k more ws₁)
-    (j : ℕ) (rest : List Bool) (fits : s .fed + k + j ≤ linesOf s) (whole₁ : length rest ≡ j * width (shapeOf s)) (ws₂ : List ℕ) (W₁ : FeedWords (feedRecord s ws k more) ws₁ j rest ws₂) where
+module _ (s : Session) (ws : List ℕ) (S : Sound s ws) (k : ℕ) (more : List Bool) (few : k ≤ linesOf s - s .fed)
+    (whole : length more ≡ k * width (shapeOf s)) (ws₁ : List ℕ) (W : FeedWords s ws k more ws₁)
+    (j : ℕ) (rest : List Bool) (fits : s .fed + k + j ≤ linesOf s) (whole₁ : length rest ≡ j * width (shapeOf s)) (ws₂ : List ℕ)
+    (W₁ : FeedWords (feedRecord s ws k more) ws₁ j rest ws₂) where
   abbrev shape : List ℕ
   shape = shapeOf s
 
@@ -105,19 +108,24 @@ module _ (s : Session) (ws : List ℕ) (S : Sound s ws) (k : ℕ) (more : List B
   touches-both =
       touches-after s ws cells H (k + j) (more ++ rest) few-both whole-both
       ∙ ap (λ (c : List Bool). frameTouches shape structure c (s .fed) (k + j)) (sym cells-are)
-      ∙ touches-split (leading shape) structure (runsBefore shape structure ((cells ++ more) ++ rest)) (frameRun shape structure ((cells ++ more) ++ rest)) (s .fed) k j
+      ∙ touches-split (leading shape) structure (runsBefore shape structure ((cells ++ more) ++ rest))
+      (frameRun shape structure ((cells ++ more) ++ rest)) (s .fed) k j
       ∙ ap₂ (λ (x : List Edge) (y : List Edge). x ++ y)
-      (touches-stay shape structure (cells ++ more) rest (s .fed + k) (fits-all s ws cells H k more few whole) (s .fed) k (le-refl (s .fed + k)) ∙ sym (touches-after s ws cells H k more few whole))
+      (touches-stay shape structure (cells ++ more) rest (s .fed + k) (fits-all s ws cells H k more few whole) (s .fed) k
+      (le-refl (s .fed + k)) ∙ sym (touches-after s ws cells H k more few whole))
       (sym (touches-after s₁ ws₁ (cells ++ more) H₁ j rest few₁ whole-s₁))
 
   edges-both : feedEdges s ws (k + j) (more ++ rest) ≡ visit (feedTouches s₁ ws₁ j rest) (feedEdges s ws k more)
   unfolding feedEdges
-  edges-both = ap (λ (es : List Edge). visit es (groupingOf s ws)) touches-both ∙ visit-append (feedTouches s ws k more) (feedTouches s₁ ws₁ j rest) (groupingOf s ws)
+  edges-both =
+      ap (λ (es : List Edge). visit es (groupingOf s ws)) touches-both
+      ∙ visit-append (feedTouches s ws k more) (feedTouches s₁ ws₁ j rest) (groupingOf s ws)
 
   -- the grouping that the first feed left is that of its edges
   between : (a : ℕ) → rep (groupingOf s₁ ws₁) a ≡ rep (feedEdges s ws k more) a
   unfolding feedRecord shapeOf
-  between = grouping-rep-all (parentOf L ws₁) (runsAfter s more) (W .parents) (feedEdges s ws k more) (edges-ends s ws cells H k more few whole (S .shape .memory) ws₁ W (S .words .parents)) (W .grouped)
+  between = grouping-rep-all (parentOf L ws₁) (runsAfter s more) (W .parents) (feedEdges s ws k more)
+      (edges-ends s ws cells H k more few whole (S .shape .memory) ws₁ W (S .words .parents)) (W .grouped)
 
   -- so the second feed's edges group as those of one feed
   second : feedEdges s₁ ws₁ j rest ≡ visit (feedTouches s₁ ws₁ j rest) (groupingOf s₁ ws₁)
@@ -133,7 +141,9 @@ module _ (s : Session) (ws : List ℕ) (S : Sound s ws) (k : ℕ) (more : List B
   -- the joins counted by the first feed are those of the grouping that it left
   joins-between : joins (groupingOf s₁ ws₁) ≡ joins (feedEdges s ws k more)
   unfolding feedRecord shapeOf
-  joins-between = grouping-joins (parentOf L ws₁) (runsAfter s more) (W .parents) ∙ sym (joins-after s ws cells H k more few whole (S .shape .memory) ws₁ W (S .words .parents))
+  joins-between =
+      grouping-joins (parentOf L ws₁) (runsAfter s more) (W .parents)
+      ∙ sym (joins-after s ws cells H k more few whole (S .shape .memory) ws₁ W (S .words .parents))
 
   joins-both : joins (feedEdges s₁ ws₁ j rest) ≡ joins (feedEdges s ws (k + j) (more ++ rest))
   joins-both =
@@ -196,10 +206,15 @@ module _ (s : Session) (ws : List ℕ) (S : Sound s ws) (k : ℕ) (more : List B
   written-both : Wrote s ws (k + j) (more ++ rest) ws₂
   unfolding feedRecord shapeOf structureOf
   written-both = record {
-    lined = λ ℓ h. H₂ .starts ℓ (omega arith) ∙ ap (λ (c : List Bool). runsBefore shape structure c ℓ) cells-are ∙ sym (start-after s ws cells H (k + j) (more ++ rest) few-both whole-both ℓ h);
-    ran = λ r h. H₂ .listed r (rw runs-both h) ∙ ap (λ (c : List Bool). frameRun shape structure c r) cells-are ∙ sym (run-after s ws cells H (k + j) (more ++ rest) few-both whole-both r h);
+    lined =
+        λ ℓ h. H₂ .starts ℓ (omega arith) ∙ ap (λ (c : List Bool). runsBefore shape structure c ℓ) cells-are
+        ∙ sym (start-after s ws cells H (k + j) (more ++ rest) few-both whole-both ℓ h);
+    ran =
+        λ r h. H₂ .listed r (rw runs-both h) ∙ ap (λ (c : List Bool). frameRun shape structure c r) cells-are
+        ∙ sym (run-after s ws cells H (k + j) (more ++ rest) few-both whole-both r h);
     stands = λ x A no-parent.
-        written s₁ ws₁ (cells ++ more) H₁ j rest few₁ whole-s₁ memory₁ ws₂ W₁ .stands x (aside-second x A) (λ r h. no-parent r (omega (arith, h, runs-both)))
+        written s₁ ws₁ (cells ++ more) H₁ j rest few₁ whole-s₁ memory₁ ws₂ W₁ .stands x (aside-second x A)
+        (λ r h. no-parent r (omega (arith, h, runs-both)))
         ∙ written s ws cells H k more few whole (S .shape .memory) ws₁ W .stands x (aside-first x A) (λ r h. no-parent r (of-both r h));
   }
 
@@ -221,14 +236,18 @@ pub record OneFeed (s : Session) (ws : List ℕ) (k : ℕ) (cells : List Bool) (
   pub session : s′ ≡ feedRecord s ws k cells
   pub words : FeedWords s ws k cells ws′
 
-pub one-feed : (s : Session) (ws : List ℕ) (k : ℕ) (cells : List Bool) (a : Answer) (s′ : Session) (ws′ : List ℕ) → FeedAccepted s ws k cells
+pub one-feed : (s : Session) (ws : List ℕ) (k : ℕ) (cells : List Bool) (a : Answer) (s′ : Session) (ws′ : List ℕ)
+    → FeedAccepted s ws k cells
     → FeedPromise s ws k cells a s′ ws′ → OneFeed s ws k cells s′ ws′
-one-feed s ws k cells a s′ ws′ G P = record { whole = G .whole; session = accepted-session s ws k cells G a s′ ws′ P; words = P .accepted (accepted-cause s ws k cells G) }
+one-feed s ws k cells a s′ ws′ G P =
+    record { whole = G .whole; session = accepted-session s ws k cells G a s′ ws′ P; words = P .accepted (accepted-cause s ws k cells G) }
 
 -- a block, and those after it
-module _ (s : Session) (ws : List ℕ) (S : Sound s ws) (k : ℕ) (more : List Bool) (s₁ : Session) (ws₁ : List ℕ) (few : k ≤ linesOf s - s .fed) (O : OneFeed s ws k more s₁ ws₁) where
+module _ (s : Session) (ws : List ℕ) (S : Sound s ws) (k : ℕ) (more : List Bool) (s₁ : Session) (ws₁ : List ℕ)
+    (few : k ≤ linesOf s - s .fed) (O : OneFeed s ws k more s₁ ws₁) where
   pub between-sound : Sound s₁ ws₁
-  between-sound = subst (λ (x : Session). Sound x ws₁) (sym (O .session)) (sound-after s ws (cellsOf s ws) (sound-stores s ws S) k more few (O .whole) (S .shape .memory) ws₁ (O .words) (S .words .parents) S)
+  between-sound = subst (λ (x : Session). Sound x ws₁) (sym (O .session))
+      (sound-after s ws (cellsOf s ws) (sound-stores s ws S) k more few (O .whole) (S .shape .memory) ws₁ (O .words) (S .words .parents) S)
 
   pub between-shape : shapeOf s₁ ≡ shapeOf s
   between-shape = ap shapeOf (O .session) ∙ feed-shape s ws k more
@@ -247,18 +266,23 @@ module _ (s : Session) (ws : List ℕ) (S : Sound s ws) (k : ℕ) (more : List B
         words = words-both s ws S k more few (O .whole) ws₁ (O .words) j rest fits whole ws₂ (N .words);
       }
 
-pub fills-feed : {w : ℕ} {s s′ : Session} {ws ws′ ks : List ℕ} {cells : List Bool} → Fills w s ws ks cells s′ ws′ → Sound s ws → w ≡ width (shapeOf s)
+pub fills-feed : {w : ℕ} {s s′ : Session} {ws ws′ ks : List ℕ} {cells : List Bool} → Fills w s ws ks cells s′ ws′ → Sound s ws
+    → w ≡ width (shapeOf s)
     → s .fed + sum ks ≤ linesOf s → OneFeed s ws (sum ks) cells s′ ws′
 unfolding sum
 fills-feed (no-more {s = s} {ws = ws}) S e h =
     let none : FeedAccepted s ws 0 [] = record { is-sound = S; few = omega arith; whole = sym (zero-mul (width (shapeOf s))) } in
     record { whole = none .whole; session = sym (record-none s ws [] none); words = words-none s ws [] none }
-fills-feed (block {s = s} {s′ = s₁} {s″ = s₂} {ws = ws} {ws′ = ws₁} {ws″ = ws₂} {k = k} {ks = ks} {cells = more} {rest = rest} {a = a} whole P F) S e h =
+fills-feed (block {s = s} {s′ = s₁} {s″ = s₂} {ws = ws} {ws′ = ws₁} {ws″ = ws₂} {k = k} {ks = ks} {cells = more} {rest = rest} {a = a} whole
+    P F) S e h =
     let few : k ≤ linesOf s - s .fed = omega arith in
     let O = one-feed s ws k more a s₁ ws₁ (record { is-sound = S; few = few; whole = whole ∙ ap (λ (w : ℕ). k * w) e }) P in
     let d = between-shape s ws S k more s₁ ws₁ few O in
     one-more s ws S k more s₁ ws₁ few O (sum ks) rest s₂ ws₂ (omega arith)
-    (fills-feed F (between-sound s ws S k more s₁ ws₁ few O) (e ∙ ap width (sym d)) (rw d (omega (arith, between-fed s ws S k more s₁ ws₁ few O))))
+    (fills-feed F (between-sound s ws S k more s₁ ws₁ few O) (e ∙ ap width (sym d)) (rw d (omega (
+      arith,
+      between-fed s ws S k more s₁ ws₁ few O,
+    ))))
 
 -- ---- the blocks of a whole frame
 

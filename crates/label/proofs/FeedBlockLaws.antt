@@ -17,10 +17,12 @@ use Rattle.frame.specs.Structure.{leftOn}
 use Rattle.frame.specs.Runs.{runs, beginsRun, Run, none, frameRuns, allRuns, runsBefore, frameRun}
 use Rattle.frame.specs.Touches.{touches}
 use Rattle.frame.specs.Memory.{stride, perLine, wordsNeeded}
+use Rattle.frame.specs.Plain.{Answer, fed, unless}
 use Rattle.frame.specs.Words.{startPlace, endPlace, parentPlace, lineStart, parentOf, storedRun, NoParent}
 use Rattle.frame.proofs.ShapeLaws.{Fits, length-leading}
 use Rattle.frame.proofs.EntryLaws.{length-entries, getD-entries}
 use Rattle.frame.proofs.FrameRunLaws.{start-le, run-first, runs-all}
+use Rattle.frame.proofs.PlainLaws.{unless-none}
 use Rattle.frame.proofs.TouchLaws.{touches-same, touches-bytes}
 use Rattle.forest.specs.Forest.{own, nonRoots, grouping}
 use Rattle.forest.proofs.ForestLaws.{grouping-joins}
@@ -32,14 +34,17 @@ use Rattle.geo.specs.Geometry.{GeoOf}
 use Rattle.block.specs.Blocks.{linesRuns, BlockRoom, Block, BlockReady, touchesFrom, BlockUnited, RoomFor, Extracts}
 use Rattle.causes.specs.declared.Checked.{Checked}
 use Rattle.causes.specs.Cases.{checkNumber}
+use Rattle.causes.proofs.CaseLaws.{passed-none}
 use Rattle.label.specs.declared.Session.{Session}
 use Rattle.label.specs.Record.{shapeOf, structureOf, linesOf, withFigures}
 use Rattle.label.specs.Sound.{Sound}
 use Rattle.label.specs.Held.{cellsOf}
-use Rattle.label.specs.Feeding.{feedCauseOf, runsAfter, startAfter, runAfter, feedTouches, feedEdges, figuresAfter, feedRecord, FeedWords}
-use Rattle.label.specs.Steps.{RecordFound, FeedAccepted, FeedExtracted, FeedDone}
-use Rattle.label.proofs.AcceptedLaws.{accepted-fits, cause-accepted}
+use Rattle.label.specs.Feeding.{runsAfter, startAfter, runAfter, feedTouches, feedEdges, figuresAfter, feedRecord}
+use Rattle.label.specs.Feeding.{feedCauseOf, FeedWords, FeedPromise}
+use Rattle.label.specs.Steps.{RecordFound, FeedAccepted, FeedExtracted, SomeExtracted, FeedDone}
+use Rattle.label.proofs.AcceptedLaws.{accepted-fits, cause-accepted, done-promise}
 use Rattle.label.proofs.RecordGeometry.{geo-lines, geo-width, geo-left}
+use Rattle.label.proofs.CheckLaws.{passed-cause, passed-geometry}
 use Rattle.label.proofs.StoreLaws.{Stores}
 use Rattle.label.proofs.StoredSound.{stores-ordered}
 use Rattle.label.proofs.SoundCells.{sound-stores}
@@ -98,13 +103,15 @@ module _ (s : Session) (ws : List ℕ) (k : ℕ) (more : List Bool) (G : FeedAcc
 
   room-all : L + 1 + stride * runsAfter s more ≤ length ws
   unfolding wordsNeeded
-  room-all = omega (arith, S .shape .memory, few-after s ws cells H k more (G .few) (G .whole), mul-assoc stride L (perLine shape structure))
+  room-all =
+      omega (arith, S .shape .memory, few-after s ws cells H k more (G .few) (G .whole), mul-assoc stride L (perLine shape structure))
 
   few : runsAfter s more < 4294967293
   unfolding runs
   few =
       let all = runs-all shape structure (cells ++ more) (s .fed + k) (fits-all s ws cells H k more (G .few) (G .whole)) in
-      omega (arith, runs-after s ws cells H k more (G .few) (G .whole), all, count-most (beginsRun shape structure (cells ++ more)) (size shape), limits s ws S .2)
+      let most = count-most (beginsRun shape structure (cells ++ more)) (size shape) in
+      omega (arith, runs-after s ws cells H k more (G .few) (G .whole), all, most, limits s ws S .2)
 
   pub feed-lines-fit : s .fed + k < 4294967293
   feed-lines-fit = omega (arith, below, limits s ws S .1)
@@ -131,22 +138,37 @@ module _ (s : Session) (ws : List ℕ) (k : ℕ) (more : List Bool) (G : FeedAcc
     })
 
     old-line : (ℓ : ℕ) → ℓ ≤ s .fed → lineStart ws₁ ℓ ≡ lineStart ws ℓ
-    old-line ℓ h = let f = S .shape .within in stands ℓ (record { no-line = λ i l e. omega arith; no-start = λ r a b e. omega arith; no-end = λ r a b e. omega arith })
+    old-line ℓ h =
+        let f = S .shape .within in
+        stands ℓ (record { no-line = λ i l e. omega arith; no-start = λ r a b e. omega arith; no-end = λ r a b e. omega arith })
 
     old-run : (r : ℕ) → r < s .figures .runs → storedRun L ws₁ r ≡ storedRun L ws r
     old-run r h =
         ap₂ (λ (x : ℕ) (y : ℕ). record { start = x; end = y })
-        (stands (startPlace L r) (record { no-line = λ i l e. omega (arith, below); no-start = λ x a b e. omega arith; no-end = λ x a b e. omega arith }))
-        (stands (endPlace L r) (record { no-line = λ i l e. omega (arith, below); no-start = λ x a b e. omega arith; no-end = λ x a b e. omega arith }))
+        (stands (startPlace L r) (record {
+          no-line = λ i l e. omega (arith, below);
+          no-start = λ x a b e. omega arith;
+          no-end = λ x a b e. omega arith;
+        }))
+        (stands (endPlace L r) (record {
+          no-line = λ i l e. omega (arith, below);
+          no-start = λ x a b e. omega arith;
+          no-end = λ x a b e. omega arith;
+        }))
 
     parents-stand : (r : ℕ) → parentOf L ws₁ r ≡ parentOf L ws r
-    parents-stand r = stands (parentPlace L r) (record { no-line = λ i l e. omega (arith, below); no-start = λ x a b e. omega arith; no-end = λ x a b e. omega arith })
+    parents-stand r = stands (parentPlace L r) (record {
+      no-line = λ i l e. omega (arith, below);
+      no-start = λ x a b e. omega arith;
+      no-end = λ x a b e. omega arith;
+    })
 
     line-after : (ℓ : ℕ) → ℓ ≤ s .fed + k → lineStart ws₁ ℓ ≡ startAfter s ws more ℓ
     unfolding startAfter
     line-after ℓ h = go (leb ℓ (s .fed)) refl
       where
-        go : (b : Bool) → leb ℓ (s .fed) ≡ b → lineStart ws₁ ℓ ≡ cond b (lineStart ws ℓ) (s .figures .runs + runsBefore shape structure more (ℓ - s .fed))
+        go : (b : Bool) → leb ℓ (s .fed) ≡ b
+            → lineStart ws₁ ℓ ≡ cond b (lineStart ws ℓ) (s .figures .runs + runsBefore shape structure more (ℓ - s .fed))
         go true e = old-line ℓ (leb-true ℓ (s .fed) e)
         go false e =
             let l = leb-false ℓ (s .fed) e in
@@ -154,20 +176,24 @@ module _ (s : Session) (ws : List ℕ) (k : ℕ) (more : List Bool) (G : FeedAcc
             let q : s .fed + suc (ℓ - s .fed - 1) ≡ ℓ = omega arith in
             let d : suc (ℓ - s .fed - 1) ≡ ℓ - s .fed = omega arith in
             subst (λ (x : ℕ). lineStart ws₁ x ≡ s .figures .runs + runsBefore shape structure more (ℓ - s .fed)) q
-            (B .lined (ℓ - s .fed - 1) i ∙ ap (λ (x : ℕ). s .figures .runs + x) (lines-length (suc (ℓ - s .fed - 1)) ∙ ap (runsBefore shape structure more) d))
+            (B .lined (ℓ - s .fed - 1) i
+            ∙ ap (λ (x : ℕ). s .figures .runs + x) (lines-length (suc (ℓ - s .fed - 1)) ∙ ap (runsBefore shape structure more) d))
 
     run-after : (r : ℕ) → r < runsAfter s more → storedRun L ws₁ r ≡ runAfter s ws more r
     unfolding runAfter
     run-after r h = go (ltb r (s .figures .runs)) refl
       where
-        go : (b : Bool) → ltb r (s .figures .runs) ≡ b → storedRun L ws₁ r ≡ cond b (storedRun L ws r) (frameRun shape structure more (r - s .figures .runs))
+        go : (b : Bool) → ltb r (s .figures .runs) ≡ b
+            → storedRun L ws₁ r ≡ cond b (storedRun L ws r) (frameRun shape structure more (r - s .figures .runs))
         go true e = old-run r (ltb-true r (s .figures .runs) e)
         go false e =
             let l = ltb-false r (s .figures .runs) e in
             let i : r - s .figures .runs < length (linesRuns left w more k) = omega (arith, after-is, h) in
             let q : s .figures .runs + (r - s .figures .runs) ≡ r = omega arith in
             subst (λ (x : ℕ). storedRun L ws₁ x ≡ frameRun shape structure more (r - s .figures .runs)) q
-            (B .ran (r - s .figures .runs) i ∙ ap (λ (us : List Run). getD us (r - s .figures .runs) none) (lines-runs k) ∙ sym (run-first shape structure more k (r - s .figures .runs) (F .below) (rw (← lines-length k) i)))
+            (B .ran (r - s .figures .runs) i
+            ∙ ap (λ (us : List Run). getD us (r - s .figures .runs) none) (lines-runs k)
+            ∙ sym (run-first shape structure more k (r - s .figures .runs) (F .below) (rw (← lines-length k) i)))
 
     wrote₁ : Wrote s ws k more ws₁
     wrote₁ = record { lined = line-after; ran = run-after; stands = λ j A free. stands j A }
@@ -187,7 +213,13 @@ module _ (s : Session) (ws : List ℕ) (k : ℕ) (more : List Bool) (G : FeedAcc
     none-written : k ≡ 0 → ws₁ ≡ ws
     none-written z =
         let no-runs : length (linesRuns left w more k) ≡ 0 = rw z (unfold linesRuns gather in refl) in
-        ext-getD 0 ws₁ ws (B .long) (λ j h. B .others j (record { no-line = λ i l e. omega arith; no-start = λ r l e. omega (arith, no-runs); no-end = λ r l e. omega (arith, no-runs) }))
+        ext-getD 0 ws₁ ws (B .long)
+        (λ j h.
+        B .others j (record {
+          no-line = λ i l e. omega arith;
+          no-start = λ r l e. omega (arith, no-runs);
+          no-end = λ r l e. omega (arith, no-runs);
+        }))
 
     -- ---- union
 
@@ -215,7 +247,10 @@ module _ (s : Session) (ws : List ℕ) (k : ℕ) (more : List Bool) (G : FeedAcc
       touches-are =
           ap (λ (ds : List ℕ). touches ds (s .structure) (lineStart ws₁) (storedRun L ws₁) (s .fed) k) leading-is
           ∙ touches-bytes (leading shape) (s .structure) structure (lineStart ws₁) (storedRun L ws₁) first-bytes (s .fed) k
-          ∙ sym (touches-same (leading shape) structure (runsBefore shape structure (cells ++ more)) (lineStart ws₁) (frameRun shape structure (cells ++ more)) (storedRun L ws₁) (s .fed + k) starts (start-le shape structure (cells ++ more)) listed below (s .fed) k (le-refl (s .fed + k)))
+          ∙ sym (touches-same (leading shape) structure
+          (runsBefore shape structure (cells ++ more)) (lineStart ws₁)
+          (frameRun shape structure (cells ++ more)) (storedRun L ws₁)
+          (s .fed + k) starts (start-le shape structure (cells ++ more)) listed below (s .fed) k (le-refl (s .fed + k)))
           ∙ sym (touches-after s ws cells H k more (G .few) (G .whole))
         where
           leading-is : leadingOf (g .leads) (g .dims) ≡ leading shape
@@ -232,13 +267,24 @@ module _ (s : Session) (ws : List ℕ) (k : ℕ) (more : List Bool) (G : FeedAcc
           starts : (ℓ : ℕ) → ℓ ≤ s .fed + k → runsBefore shape structure (cells ++ more) ℓ ≡ lineStart ws₁ ℓ
           starts ℓ h = sym (unfold feedRecord shapeOf structureOf in stores₁ .starts ℓ h)
 
-          listed : (r : ℕ) → r < runsBefore shape structure (cells ++ more) (s .fed + k) → frameRun shape structure (cells ++ more) r ≡ storedRun L ws₁ r
-          listed r h = sym (unfold feedRecord shapeOf structureOf in stores₁ .listed r (rw (runs-after s ws cells H k more (G .few) (G .whole)) h))
+          listed : (r : ℕ) → r < runsBefore shape structure (cells ++ more) (s .fed + k)
+              → frameRun shape structure (cells ++ more) r ≡ storedRun L ws₁ r
+          listed r h =
+              sym (unfold feedRecord shapeOf structureOf in
+              stores₁ .listed r (rw (runs-after s ws cells H k more (G .few) (G .whole)) h))
+
+      -- the grouping held before
+      held-before : grouping (parentOf L ws₁) (lineStart ws₁ (s .fed)) ≡ grouping (parentOf L ws) (s .figures .runs)
+      held-before =
+          ap (grouping (parentOf L ws₁)) fed-start
+          ∙ grouping-same (parentOf L ws₁) (parentOf L ws) (s .figures .runs) (λ r h. parents-stand r)
 
       module _ (ws₂ : List ℕ) (t : ℕ) (U : BlockUnited (g .leads) (g .dims) L (s .structure) ws₁ ws₂ (s .fed) k t) where
-        edges-are : visit (touchesFrom (g .leads) (g .dims) L (s .structure) ws₁ (s .fed) k) (grouping (parentOf L ws₁) (lineStart ws₁ (s .fed))) ≡ feedEdges s ws k more
+        edges-are : visit (touchesFrom (g .leads) (g .dims) L (s .structure) ws₁ (s .fed) k)
+            (grouping (parentOf L ws₁) (lineStart ws₁ (s .fed)))
+            ≡ feedEdges s ws k more
         unfolding feedEdges
-        edges-are = ap₂ visit touches-are (ap (grouping (parentOf L ws₁)) fed-start ∙ grouping-same (parentOf L ws₁) (parentOf L ws) (s .figures .runs) (λ r h. parents-stand r))
+        edges-are = ap₂ visit touches-are held-before
 
         others : (j : ℕ) → NoParent L (runsAfter s more) j → getD ws₂ j 0 ≡ getD ws₁ j 0
         others j free = U .others j (rw last-start free)
@@ -257,7 +303,10 @@ module _ (s : Session) (ws : List ℕ) (k : ℕ) (more : List Bool) (G : FeedAcc
         pub block-words : FeedWords s ws k more ws₂
         block-words = record {
           long = U .long ∙ B .long;
-          others = wrote-others s ws k more below (λ r h. omega (arith, room s ws cells H k more (G .few) (G .whole) (S .shape .memory) r h)) (room-lines s ws cells H k more (G .few) (G .whole) (S .shape .memory)) ws₂ wrote₂;
+          others =
+              wrote-others s ws k more below
+              (λ r h. omega (arith, room s ws cells H k more (G .few) (G .whole) (S .shape .memory) r h))
+              (room-lines s ws cells H k more (G .few) (G .whole) (S .shape .memory)) ws₂ wrote₂;
           parents = λ r h. U .parents r (rw last-start h);
           grouped = λ r h. U .grouped r (rw last-start h) ∙ ap (λ (es : List Edge). rep es r) edges-are;
           no-lines = λ z. U .no-lines z ∙ none-written z;
@@ -265,33 +314,55 @@ module _ (s : Session) (ws : List ℕ) (k : ℕ) (more : List Bool) (G : FeedAcc
 
         pub block-joins : s .figures .joins + t ≡ joins (feedEdges s ws k more)
         block-joins =
-            let before : joins (grouping (parentOf L ws₁) (lineStart ws₁ (s .fed))) ≡ s .figures .joins = ap joins (ap (grouping (parentOf L ws₁)) fed-start ∙ grouping-same (parentOf L ws₁) (parentOf L ws) (s .figures .runs) (λ r h. parents-stand r)) ∙ grouping-joins (parentOf L ws) (s .figures .runs) (S .words .parents) ∙ sym (S .words .join-count) in
+            let before = ap joins held-before ∙ grouping-joins (parentOf L ws) (s .figures .runs) (S .words .parents)
+            ∙ sym (S .words .join-count) in
             omega (arith, U .counted, before, ap joins edges-are)
 
 -- ---- the same, in the names of the record's geometry
 
-module _ (s : Session) (ws : List ℕ) (k : ℕ) (more : List Bool) (G : FeedAccepted s ws k more) (g : Geo) (K : GeoOf (s .rank) (s .shape) (s .structure) g) where
+module _ (s : Session) (ws : List ℕ) (k : ℕ) (more : List Bool) (G : FeedAccepted s ws k more) (g : Geo)
+    (K : GeoOf (s .rank) (s .shape) (s .structure) g) where
   pub feed-room : RoomFor g (s .fed) (s .figures .runs) k more ws
   feed-room = rw (geo-left s ws g K, geo-width s ws g K, geo-lines s ws g K) (block-room s ws k more G)
 
   pub feed-extracted : (ws₁ : List ℕ) (n : ℕ) → Extracts g (s .fed) (s .figures .runs) k more ws ws₁ n → FeedExtracted s ws k more g ws₁ n
-  feed-extracted ws₁ n B = record { given = G; geometry = K; block = rw (← geo-left s ws g K, ← geo-width s ws g K, ← geo-lines s ws g K) B }
+  feed-extracted ws₁ n B = record {
+    given = G;
+    geometry = K;
+    block = rw (← geo-left s ws g K, ← geo-width s ws g K, ← geo-lines s ws g K) B;
+  }
 
--- so where the check of a feed passed
-module _ (s : Session) (ws : List ℕ) (k : ℕ) (more : List Bool) (r : Checked) (F : RecordFound s (feedCauseOf s ws k more) r) (passed : checkNumber (r .check) ≡ 0) where
-  no-cause : feedCauseOf s ws k more ≡ 0
-  no-cause = sym (F .number) ∙ passed
+-- so where the check of a feed passed: t is whether it failed
+module _ (s : Session) (ws : List ℕ) (k : ℕ) (more : List Bool) {r : Checked} (F : RecordFound s (feedCauseOf s ws k more) r) {t : Bool}
+    (is : t ≡ ltb 0 (checkNumber (r .check))) (left : t ≡ false) where
+  given : FeedAccepted s ws k more
+  given = cause-accepted s ws k more (passed-cause s F is left)
 
-  pub found-given : FeedAccepted s ws k more
-  found-given = cause-accepted s ws k more no-cause
+  pub passed-room : RoomFor (r .geo) (s .fed) (s .figures .runs) k more ws
+  passed-room = feed-room s ws k more given (r .geo) (passed-geometry s F is left)
 
-  pub found-room : RoomFor (r .geo) (s .fed) (s .figures .runs) k more ws
-  found-room = feed-room s ws k more found-given (r .geo) (F .geometry no-cause)
+  extracted : {ws₁ : List ℕ} {n : ℕ} → Extracts (r .geo) (s .fed) (s .figures .runs) k more ws ws₁ n
+      → FeedExtracted s ws k more (r .geo) ws₁ n
+  extracted {ws₁} {n} B = feed-extracted s ws k more given (r .geo) (passed-geometry s F is left) ws₁ n B
 
-  pub found-extracted : (ws₁ : List ℕ) (n : ℕ) → Extracts (r .geo) (s .fed) (s .figures .runs) k more ws ws₁ n → FeedExtracted s ws k more (r .geo) ws₁ n
-  found-extracted ws₁ n B = feed-extracted s ws k more found-given (r .geo) (F .geometry no-cause) ws₁ n B
+module _ {s : Session} {ws : List ℕ} {k : ℕ} {more : List Bool} {r : Checked} (F : RecordFound s (feedCauseOf s ws k more) r) {t : Bool}
+    (is : t ≡ ltb 0 (checkNumber (r .check))) (left : t ≡ false) {ws₁ : List ℕ} {n : ℕ}
+    (B : Extracts (r .geo) (s .fed) (s .figures .runs) k more ws ws₁ n) where
+  pub passed-extracted : SomeExtracted s (r .geo) k ws₁ n
+  passed-extracted = record { words = ws; cells = more; extracted = extracted s ws k more F is left B }
 
-module _ (s : Session) (ws : List ℕ) (k : ℕ) (more : List Bool) (g : Geo) (ws₁ : List ℕ) (n : ℕ) (X : FeedExtracted s ws k more g ws₁ n) (long : 3 ^ s .rank ≤ length (s .structure)) where
+  -- the union's promise is for whatever feed was extracted
+  pub passed-feed : {s₁ : Session} {ws₂ : List ℕ}
+      → ((us : List ℕ) (flags : List Bool) → FeedExtracted s us k flags (r .geo) ws₁ n → FeedDone s us k flags s₁ ws₂)
+      → {s₂ : Session} {a : Answer} → (s₂ ≡ s₁) × (a ≡ unless (checkNumber (r .check)) (fed (s₁ .fed) (s₁ .figures)))
+      → FeedPromise s ws k more a s₂ ws₂
+  passed-feed {s₁} {ws₂} U A =
+      let done = U ws more (extracted s ws k more F is left B) in
+      let said = A .1 ∙ unless-none _ _ (passed-none _ _ is left) in
+      done-promise s ws k more (given s ws k more F is left) s₁ ws₂ done _ said _ (A .0)
+
+module _ (s : Session) (ws : List ℕ) (k : ℕ) (more : List Bool) (g : Geo) (ws₁ : List ℕ) (n : ℕ) (X : FeedExtracted s ws k more g ws₁ n)
+    (long : 3 ^ s .rank ≤ length (s .structure)) where
   abbrev K : GeoOf (s .rank) (s .shape) (s .structure) g
   K = X .geometry
 
@@ -315,7 +386,9 @@ module _ (s : Session) (ws : List ℕ) (k : ℕ) (more : List Bool) (g : Geo) (w
         let G = X .given in
         let S = G .is-sound in
         let p = parentOf (linesOf s) ws₂ in
-        omega (arith, joins-are, joins-after s ws (cellsOf s ws) (sound-stores s ws S) k more (G .few) (G .whole) (S .shape .memory) ws₂ W (S .words .parents), count-most (λ r. not (own p r)) (runsAfter s more), few s ws k more G)
+        let after = joins-after s ws (cellsOf s ws) (sound-stores s ws S) k more (G .few) (G .whole) (S .shape .memory) ws₂ W
+        (S .words .parents) in
+        omega (arith, joins-are, after, count-most (λ r. not (own p r)) (runsAfter s more), few s ws k more G)
 
     pub feed-done : FeedDone s ws k more (withFigures s (s .fed + k) (record { runs = n; joins = s .figures .joins + t })) ws₂
     unfolding feedRecord

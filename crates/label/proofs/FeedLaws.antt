@@ -38,7 +38,8 @@ pub feed-shape : (s : Session) (ws : List ℕ) (k : ℕ) (more : List Bool) → 
 unfolding feedRecord shapeOf
 feed-shape s ws k more = refl
 
-module _ (s : Session) (ws : List ℕ) (cells : List Bool) (H : Stores s ws cells) (k : ℕ) (more : List Bool) (few : k ≤ linesOf s - s .fed) (whole : length more ≡ k * width (shapeOf s)) where
+module _ (s : Session) (ws : List ℕ) (cells : List Bool) (H : Stores s ws cells) (k : ℕ) (more : List Bool) (few : k ≤ linesOf s - s .fed)
+    (whole : length more ≡ k * width (shapeOf s)) where
   abbrev shape : List ℕ
   shape = shapeOf s
 
@@ -62,7 +63,12 @@ module _ (s : Session) (ws : List ℕ) (cells : List Bool) (H : Stores s ws cell
   fits-new = record { ranked = H .fits .ranked; below = omega (arith, below); whole = whole }
 
   pub fits-all : Fits shape (s .fed + k) (cells ++ more)
-  fits-all = record { ranked = H .fits .ranked; below = below; whole = length-append cells more ∙ ap₂ _+_ (H .fits .whole) whole ∙ sym (add-mul (s .fed) k (width shape)) }
+  fits-all = record {
+    ranked = H .fits .ranked;
+    below = below;
+    whole = length-append cells more ∙ ap₂ _+_
+        (H .fits .whole) whole ∙ sym (add-mul (s .fed) k (width shape));
+  }
 
   -- ---- runs
 
@@ -77,38 +83,55 @@ module _ (s : Session) (ws : List ℕ) (cells : List Bool) (H : Stores s ws cell
   unfolding startAfter
   start-after ℓ h = go (leb ℓ (s .fed)) refl
     where
-      go : (b : Bool) → leb ℓ (s .fed) ≡ b → cond b (lineStart ws ℓ) (s .figures .runs + runsBefore shape structure more (ℓ - s .fed)) ≡ S′ ℓ
+      go : (b : Bool) → leb ℓ (s .fed) ≡ b
+          → cond b (lineStart ws ℓ) (s .figures .runs + runsBefore shape structure more (ℓ - s .fed)) ≡ S′ ℓ
       go true e = let l = leb-true ℓ (s .fed) e in H .starts ℓ l ∙ sym (starts-stay shape structure cells more (s .fed) (H .fits) ℓ l)
       go false e =
           let l = leb-false ℓ (s .fed) e in
           let q : s .fed + (ℓ - s .fed) ≡ ℓ = omega arith in
-          ap (λ (r : ℕ). r + runsBefore shape structure more (ℓ - s .fed)) (H .runs-are) ∙ sym (starts-new shape structure cells more (s .fed) (H .fits) (ℓ - s .fed)) ∙ ap S′ q
+          ap (λ (r : ℕ). r + runsBefore shape structure more (ℓ - s .fed)) (H .runs-are)
+          ∙ sym (starts-new shape structure cells more (s .fed) (H .fits) (ℓ - s .fed)) ∙ ap S′ q
 
   pub run-after : (r : ℕ) → r < runsAfter s more → runAfter s ws more r ≡ run′ r
   unfolding runAfter
   run-after r h = go (ltb r (s .figures .runs)) refl
     where
-      go : (b : Bool) → ltb r (s .figures .runs) ≡ b → cond b (storedRun L ws r) (frameRun shape structure more (r - s .figures .runs)) ≡ run′ r
-      go true e = let l = ltb-true r (s .figures .runs) e in H .listed r l ∙ sym (run-stays shape structure cells more (s .fed) (H .fits) r (rw (← H .runs-are) l))
+      go : (b : Bool) → ltb r (s .figures .runs) ≡ b
+          → cond b (storedRun L ws r) (frameRun shape structure more (r - s .figures .runs)) ≡ run′ r
+      go true e =
+          let l = ltb-true r (s .figures .runs) e in
+          H .listed r l ∙ sym (run-stays shape structure cells more (s .fed) (H .fits) r (rw (← H .runs-are) l))
       go false e =
           let l = ltb-false r (s .figures .runs) e in
           let q : runsBefore shape structure cells (s .fed) + (r - s .figures .runs) ≡ r = omega (arith, H .runs-are) in
-          let less : r - s .figures .runs < runsBefore shape structure more k = omega (arith, runs-after, H .runs-are, starts-new shape structure cells more (s .fed) (H .fits) k) in
+          let less : r - s .figures .runs < runsBefore shape structure more k = omega (
+            arith,
+            runs-after,
+            H .runs-are,
+            starts-new shape structure cells more (s .fed) (H .fits) k,
+          ) in
           sym (run-new shape structure cells more (s .fed) (H .fits) k (r - s .figures .runs) below less) ∙ ap run′ q
 
   -- ---- touches
 
   pub touches-after : feedTouches s ws k more ≡ frameTouches shape structure (cells ++ more) (s .fed) k
   unfolding feedTouches
-  touches-after = sym (touches-same (leading shape) structure S′ (startAfter s ws more) run′ (runAfter s ws more) (s .fed + k) (λ ℓ h. sym (start-after ℓ h)) (start-le shape structure (cells ++ more)) (λ r h. sym (run-after r (rw runs-after h))) below (s .fed) k (le-refl (s .fed + k)))
+  touches-after = sym (touches-same (leading shape) structure S′ (startAfter s ws more) run′ (runAfter s ws more) (s .fed + k)
+      (λ ℓ h. sym (start-after ℓ h)) (start-le shape structure (cells ++ more)) (λ r h. sym (run-after r (rw runs-after h))) below
+      (s .fed) k (le-refl (s .fed + k)))
 
   touches-ends : Ends (λ r. r < runsAfter s more) (feedTouches s ws k more)
-  touches-ends = rw (runs-after, touches-after) (touches-below (leading shape) structure S′ run′ (start-le shape structure (cells ++ more)) (s .fed) k below)
+  touches-ends = rw (runs-after, touches-after)
+      (touches-below (leading shape) structure S′ run′ (start-le shape structure (cells ++ more)) (s .fed) k below)
 
   -- ---- words
 
   pub few-after : runsAfter s more ≤ L * perLine shape structure
-  few-after = rw runs-after (omega (arith, starts-few shape structure (cells ++ more) (s .fed + k), mul-le-mul-right (perLine shape structure) below))
+  few-after = rw runs-after (omega (
+    arith,
+    starts-few shape structure (cells ++ more) (s .fed + k),
+    mul-le-mul-right (perLine shape structure) below,
+  ))
 
   -- words that have them hold the runs of the lines fed before and of the new ones
   pub wrote-stores : (ws′ : List ℕ) → Wrote s ws k more ws′ → Stores (feedRecord s ws k more) ws′ (cells ++ more)
@@ -149,16 +172,20 @@ module _ (s : Session) (ws : List ℕ) (cells : List Bool) (H : Stores s ws cell
             (unfold runsAfter in omega (arith, o .0), unfold runsAfter in omega (arith, o .1))))
 
         groups-after : groups (λ r. true) (feedEdges s ws k more) (runsAfter s more) + joins (feedEdges s ws k more) ≡ runsAfter s more
-        groups-after = groups-joins (λ r. true) (runsAfter s more) (feedEdges s ws k more) edges-ends (all-live (feedEdges s ws k more)) ∙ count-all (runsAfter s more)
+        groups-after =
+            groups-joins (λ r. true) (runsAfter s more) (feedEdges s ws k more) edges-ends (all-live (feedEdges s ws k more))
+            ∙ count-all (runsAfter s more)
 
         -- joins, counted by union, are the runs that are no roots
         pub joins-after : joins (feedEdges s ws k more) ≡ nonRoots (parentOf L ws′) (runsAfter s more)
         joins-after =
-            let a = roots-groups (parentOf L ws′) (runsAfter s more) (W .parents) (feedEdges s ws k more) (W .grouped) (runsAfter s more) (le-refl (runsAfter s more)) in
+            let a = roots-groups (parentOf L ws′) (runsAfter s more) (W .parents) (feedEdges s ws k more) (W .grouped) (runsAfter s more)
+            (le-refl (runsAfter s more)) in
             let b = roots-others (parentOf L ws′) (runsAfter s more) in
             omega (arith, groups-after)
 
         pub sound-after : Sound s ws → Sound (feedRecord s ws k more) ws′
         unfolding feedRecord shapeOf structureOf
         sound-after S =
-            stores-sound (feedRecord s ws k more) ws′ (cells ++ more) stores-after (S .shape .ranked) (S .shape .dimensions) (S .shape .limits) (rw (W .long) (S .shape .memory)) (W .parents) joins-after
+            stores-sound (feedRecord s ws k more) ws′ (cells ++ more) stores-after (S .shape .ranked) (S .shape .dimensions)
+            (S .shape .limits) (rw (W .long) (S .shape .memory)) (W .parents) joins-after

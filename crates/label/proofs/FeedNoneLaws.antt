@@ -19,7 +19,8 @@ use Rattle.label.specs.declared.Session.{Session}
 use Rattle.label.specs.Record.{shapeOf, structureOf, linesOf, withFigures}
 use Rattle.label.specs.Sound.{Sound}
 use Rattle.label.specs.Held.{groupingOf}
-use Rattle.label.specs.Feeding.{runsAfter, feedTouches, feedEdges, figuresAfter, feedRecord, withLines, withRuns, feedCauseOf, FeedWords, FeedPromise}
+use Rattle.label.specs.Feeding.{runsAfter, feedTouches, feedEdges, figuresAfter, feedRecord, withLines, withRuns, feedCauseOf}
+use Rattle.label.specs.Feeding.{FeedWords, FeedPromise}
 use Rattle.label.specs.Steps.{FeedAccepted}
 use Rattle.label.proofs.AcceptedLaws.{cause-accepted, accepted-fits, accepted-session}
 
@@ -47,12 +48,14 @@ module _ (s : Session) (ws : List ℕ) (cells : List Bool) (G : FeedAccepted s w
     long = refl;
     others = λ j free. rw same-words;
     parents = λ r h. S .words .parents r (rw (← same-runs) h);
-    grouped = λ r h. rw same-edges (sym (grouping-rep (parentOf (linesOf s) ws) (s .figures .runs) (S .words .parents) r (rw (← same-runs) h)));
+    grouped =
+        λ r h. rw same-edges (sym (grouping-rep (parentOf (linesOf s) ws) (s .figures .runs) (S .words .parents) r (rw (← same-runs) h)));
     no-lines = λ e. refl;
   }
 
   same-joins : joins (feedEdges s ws 0 cells) ≡ s .figures .joins
-  same-joins = ap joins same-edges ∙ grouping-joins (parentOf (linesOf s) ws) (s .figures .runs) (S .words .parents) ∙ sym (S .words .join-count)
+  same-joins =
+      ap joins same-edges ∙ grouping-joins (parentOf (linesOf s) ws) (s .figures .runs) (S .words .parents) ∙ sym (S .words .join-count)
 
   same-figures : figuresAfter s ws 0 cells ≡ s .figures
   same-figures = ap₂ (λ (r : ℕ) (j : ℕ). record { runs = r; joins = j }) same-runs same-joins
@@ -62,10 +65,13 @@ module _ (s : Session) (ws : List ℕ) (cells : List Bool) (G : FeedAccepted s w
   record-none = ap₂ (withFigures s) (add-zero (s .fed)) same-figures
 
 -- so of every record, sound or not: with k = 0 nothing changes
-pub feed-none : (s : Session) (ws : List ℕ) (cells : List Bool) (a : Answer) (s′ : Session) (ws′ : List ℕ) → FeedPromise s ws 0 cells a s′ ws′
+pub feed-none : (s : Session) (ws : List ℕ) (cells : List Bool) (a : Answer) (s′ : Session) (ws′ : List ℕ)
+    → FeedPromise s ws 0 cells a s′ ws′
     → (s′ ≡ s) × (ws′ ≡ ws)
 feed-none s ws cells a s′ ws′ P = go (feedCauseOf s ws 0 cells) refl
   where
     go : (c : ℕ) → feedCauseOf s ws 0 cells ≡ c → (s′ ≡ s) × (ws′ ≡ ws)
-    go zero e = let G = cause-accepted s ws 0 cells e in (accepted-session s ws 0 cells G a s′ ws′ P ∙ record-none s ws cells G, P .accepted e .no-lines refl)
+    go zero e =
+        let G = cause-accepted s ws 0 cells e in
+        (accepted-session s ws 0 cells G a s′ ws′ P ∙ record-none s ws cells G, P .accepted e .no-lines refl)
     go (suc c) e = (P .session ∙ kept-old s (feedRecord s ws 0 cells) (feedCauseOf s ws 0 cells) c e, P .refusal (omega arith))

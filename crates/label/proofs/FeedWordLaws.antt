@@ -39,7 +39,8 @@ unfolding withRuns
 length-withRuns s ws k cells = length-setAll _ _ _ _ ∙ length-setAll _ _ _ _ ∙ length-withLines s ws k cells
 
 -- where the frame has the lines and the memory has room
-module _ (s : Session) (ws : List ℕ) (k : ℕ) (cells : List Bool) (below : s .fed + k ≤ linesOf s) (room : (r : ℕ) → r < runsAfter s cells → endPlace (linesOf s) r < length ws) (long : linesOf s < length ws) where
+module _ (s : Session) (ws : List ℕ) (k : ℕ) (cells : List Bool) (below : s .fed + k ≤ linesOf s)
+    (room : (r : ℕ) → r < runsAfter s cells → endPlace (linesOf s) r < length ws) (long : linesOf s < length ws) where
   abbrev L : ℕ
   L = linesOf s
 
@@ -52,7 +53,8 @@ module _ (s : Session) (ws : List ℕ) (k : ℕ) (cells : List Bool) (below : s 
 
   -- ---- line starts
 
-  over-runs : (j : ℕ) → ((i : ℕ) → i < new → j ≢ startPlace L (s .figures .runs + i)) → ((i : ℕ) → i < new → j ≢ endPlace L (s .figures .runs + i))
+  over-runs : (j : ℕ) → ((i : ℕ) → i < new → j ≢ startPlace L (s .figures .runs + i))
+      → ((i : ℕ) → i < new → j ≢ endPlace L (s .figures .runs + i))
       → getD (withRuns s ws k cells) j 0 ≡ getD (withLines s ws k cells) j 0
   unfolding withRuns
   over-runs j no-start no-end = setAll-other _ _ new _ j no-end ∙ setAll-other _ _ new _ j no-start
@@ -63,7 +65,8 @@ module _ (s : Session) (ws : List ℕ) (k : ℕ) (cells : List Bool) (below : s 
 
   new-line : (i : ℕ) → i < k → getD (withLines s ws k cells) (s .fed + suc i) 0 ≡ startAfter s ws cells (s .fed + suc i)
   unfolding withLines
-  new-line i h = setAll-at (λ i. s .fed + suc i) (λ i. startAfter s ws cells (s .fed + suc i)) k ws (λ a b x y e. omega arith) i h (omega arith)
+  new-line i h =
+      setAll-at (λ i. s .fed + suc i) (λ i. startAfter s ws cells (s .fed + suc i)) k ws (λ a b x y e. omega arith) i h (omega arith)
 
   pub line-at : (ℓ : ℕ) → ℓ ≤ s .fed + k → getD (withRuns s ws k cells) ℓ 0 ≡ startAfter s ws cells ℓ
   line-at ℓ h = over-runs ℓ (λ i l q. omega arith) (λ i l q. omega arith) ∙ go (leb ℓ (s .fed)) refl
@@ -86,22 +89,31 @@ module _ (s : Session) (ws : List ℕ) (k : ℕ) (cells : List Bool) (below : s 
   over-lines j h = setAll-other _ _ k ws j (λ i l q. omega arith)
 
   -- a new run is the r-th new one
-  newer : (r : ℕ) → ltb r (s .figures .runs) ≡ false → r < runsAfter s cells → (s .figures .runs + (r - s .figures .runs) ≡ r) × (r - s .figures .runs < new)
+  newer : (r : ℕ) → ltb r (s .figures .runs) ≡ false → r < runsAfter s cells
+      → (s .figures .runs + (r - s .figures .runs) ≡ r) × (r - s .figures .runs < new)
   unfolding runsAfter
   newer r e h = let m = ltb-false r (s .figures .runs) e in (omega arith, omega arith)
 
-  new-start : (i : ℕ) → i < new → getD (withRuns s ws k cells) (startPlace L (s .figures .runs + i)) 0 ≡ runAfter s ws cells (s .figures .runs + i) .start
+  new-start : (i : ℕ) → i < new
+      → getD (withRuns s ws k cells) (startPlace L (s .figures .runs + i)) 0 ≡ runAfter s ws cells (s .figures .runs + i) .start
   unfolding withRuns
   new-start i h =
       let fits : startPlace L (s .figures .runs + i) < length ws = omega (arith, room (s .figures .runs + i) (after-new i h)) in
       setAll-other _ _ new _ (startPlace L (s .figures .runs + i)) (λ a l q. omega arith)
-      ∙ setAll-at (λ i. startPlace L (s .figures .runs + i)) (λ i. runAfter s ws cells (s .figures .runs + i) .start) new (withLines s ws k cells) (λ a b x y q. omega arith) i h (rw (length-withLines s ws k cells) fits)
+      ∙ setAll-at (λ i. startPlace L (s .figures .runs + i)) (λ i. runAfter s ws cells (s .figures .runs + i) .start) new
+      (withLines s ws k cells) (λ a b x y q. omega arith) i h (rw (length-withLines s ws k cells) fits)
 
-  new-end : (i : ℕ) → i < new → getD (withRuns s ws k cells) (endPlace L (s .figures .runs + i)) 0 ≡ runAfter s ws cells (s .figures .runs + i) .end
+  new-end : (i : ℕ) → i < new
+      → getD (withRuns s ws k cells) (endPlace L (s .figures .runs + i)) 0 ≡ runAfter s ws cells (s .figures .runs + i) .end
   unfolding withRuns
   new-end i h =
-      setAll-at (λ i. endPlace L (s .figures .runs + i)) (λ i. runAfter s ws cells (s .figures .runs + i) .end) new _ (λ a b x y q. omega arith) i h
-      (rw (length-setAll (λ i. startPlace L (s .figures .runs + i)) (λ i. runAfter s ws cells (s .figures .runs + i) .start) new (withLines s ws k cells), length-withLines s ws k cells) (room (s .figures .runs + i) (after-new i h)))
+      setAll-at (λ i. endPlace L (s .figures .runs + i)) (λ i. runAfter s ws cells (s .figures .runs + i) .end) new _
+      (λ a b x y q. omega arith) i h
+      (rw (
+        length-setAll (λ i. startPlace L (s .figures .runs + i)) (λ i. runAfter s ws cells (s .figures .runs + i) .start) new
+            (withLines s ws k cells),
+        length-withLines s ws k cells,
+      ) (room (s .figures .runs + i) (after-new i h)))
 
   pub start-at : (r : ℕ) → r < runsAfter s cells → getD (withRuns s ws k cells) (startPlace L r) 0 ≡ runAfter s ws cells r .start
   start-at r h = go (ltb r (s .figures .runs)) refl
@@ -112,7 +124,8 @@ module _ (s : Session) (ws : List ℕ) (k : ℕ) (cells : List Bool) (below : s 
       go : (b : Bool) → ltb r (s .figures .runs) ≡ b → At r
       go true e =
           let m = ltb-true r (s .figures .runs) e in
-          over-runs (startPlace L r) (λ i l q. omega arith) (λ i l q. omega arith) ∙ over-lines (startPlace L r) (omega arith) ∙ ap (λ (x : Run). x .start) (old-run r m)
+          over-runs (startPlace L r) (λ i l q. omega arith) (λ i l q. omega arith) ∙ over-lines (startPlace L r) (omega arith)
+          ∙ ap (λ (x : Run). x .start) (old-run r m)
       go false e = let q = newer r e h in subst At (q .0) (new-start (r - s .figures .runs) (q .1))
 
   pub end-at : (r : ℕ) → r < runsAfter s cells → getD (withRuns s ws k cells) (endPlace L r) 0 ≡ runAfter s ws cells r .end
@@ -124,14 +137,16 @@ module _ (s : Session) (ws : List ℕ) (k : ℕ) (cells : List Bool) (below : s 
       go : (b : Bool) → ltb r (s .figures .runs) ≡ b → At r
       go true e =
           let m = ltb-true r (s .figures .runs) e in
-          over-runs (endPlace L r) (λ i l q. omega arith) (λ i l q. omega arith) ∙ over-lines (endPlace L r) (omega arith) ∙ ap (λ (x : Run). x .end) (old-run r m)
+          over-runs (endPlace L r) (λ i l q. omega arith) (λ i l q. omega arith) ∙ over-lines (endPlace L r) (omega arith)
+          ∙ ap (λ (x : Run). x .end) (old-run r m)
       go false e = let q = newer r e h in subst At (q .0) (new-end (r - s .figures .runs) (q .1))
 
   -- ---- every other word
 
   pub aside-at : (j : ℕ) → Aside s k cells j → getD (withRuns s ws k cells) j 0 ≡ getD ws j 0
   aside-at j A =
-      over-runs j (λ i l. A .no-start (s .figures .runs + i) (omega arith) (after-new i l)) (λ i l. A .no-end (s .figures .runs + i) (omega arith) (after-new i l))
+      over-runs j (λ i l. A .no-start (s .figures .runs + i) (omega arith) (after-new i l))
+      (λ i l. A .no-end (s .figures .runs + i) (omega arith) (after-new i l))
       ∙ (unfold withLines in setAll-other _ _ k ws j (A .no-line))
 
   -- ---- from the promise, and back
@@ -146,7 +161,8 @@ module _ (s : Session) (ws : List ℕ) (k : ℕ) (cells : List Bool) (below : s 
     stands = λ j A no-parent. W .others j no-parent ∙ aside-at j A;
   }
 
-  pub wrote-others : (ws′ : List ℕ) → Wrote s ws k cells ws′ → (j : ℕ) → NoParent L (runsAfter s cells) j → getD ws′ j 0 ≡ getD (withRuns s ws k cells) j 0
+  pub wrote-others : (ws′ : List ℕ) → Wrote s ws k cells ws′ → (j : ℕ) → NoParent L (runsAfter s cells) j
+      → getD ws′ j 0 ≡ getD (withRuns s ws k cells) j 0
   wrote-others ws′ W j no-parent = line (any (λ i. eqb j (s .fed + suc i)) k) refl
     where
       At : ℕ → Type 0
@@ -156,15 +172,19 @@ module _ (s : Session) (ws : List ℕ) (k : ℕ) (cells : List Bool) (below : s 
           → any (λ r. eqb j (endPlace L r)) (runsAfter s cells) ≡ c → At j
       rest no-line true e c f =
           let r = any-found (λ r. eqb j (startPlace L r)) (runsAfter s cells) e in
-          subst At (sym (eqb-true j (startPlace L (r .0)) (r .2))) (ap (λ (x : Run). x .start) (W .ran (r .0) (r .1)) ∙ sym (start-at (r .0) (r .1)))
+          subst At (sym (eqb-true j (startPlace L (r .0)) (r .2)))
+          (ap (λ (x : Run). x .start) (W .ran (r .0) (r .1)) ∙ sym (start-at (r .0) (r .1)))
       rest no-line false e true f =
           let r = any-found (λ r. eqb j (endPlace L r)) (runsAfter s cells) f in
-          subst At (sym (eqb-true j (endPlace L (r .0)) (r .2))) (ap (λ (x : Run). x .end) (W .ran (r .0) (r .1)) ∙ sym (end-at (r .0) (r .1)))
+          subst At (sym (eqb-true j (endPlace L (r .0)) (r .2)))
+          (ap (λ (x : Run). x .end) (W .ran (r .0) (r .1)) ∙ sym (end-at (r .0) (r .1)))
       rest no-line false e false f =
           let A : Aside s k cells j = record {
             no-line = no-line;
-            no-start = λ r l h q. true≢false (sym (any-at (λ r. eqb j (startPlace L r)) (runsAfter s cells) r h (eq-eqb j (startPlace L r) q)) ∙ e);
-            no-end = λ r l h q. true≢false (sym (any-at (λ r. eqb j (endPlace L r)) (runsAfter s cells) r h (eq-eqb j (endPlace L r) q)) ∙ f);
+            no-start = λ r l h q. true≢false (sym (any-at (λ r. eqb j (startPlace L r)) (runsAfter s cells) r h
+                (eq-eqb j (startPlace L r) q)) ∙ e);
+            no-end =
+                λ r l h q. true≢false (sym (any-at (λ r. eqb j (endPlace L r)) (runsAfter s cells) r h (eq-eqb j (endPlace L r) q)) ∙ f);
           } in
           W .stands j A no-parent ∙ sym (aside-at j A)
 
@@ -172,5 +192,7 @@ module _ (s : Session) (ws : List ℕ) (k : ℕ) (cells : List Bool) (below : s 
       line true e =
           let i = any-found (λ i. eqb j (s .fed + suc i)) k e in
           let h : s .fed + suc (i .0) ≤ s .fed + k = omega (arith, i .1) in
-          subst At (sym (eqb-true j (s .fed + suc (i .0)) (i .2))) (W .lined (s .fed + suc (i .0)) h ∙ sym (line-at (s .fed + suc (i .0)) h))
-      line false e = rest (λ i l q. true≢false (sym (any-at (λ i. eqb j (s .fed + suc i)) k i l (eq-eqb j (s .fed + suc i) q)) ∙ e)) (any (λ r. eqb j (startPlace L r)) (runsAfter s cells)) refl (any (λ r. eqb j (endPlace L r)) (runsAfter s cells)) refl
+          subst At (sym (eqb-true j (s .fed + suc (i .0)) (i .2)))
+          (W .lined (s .fed + suc (i .0)) h ∙ sym (line-at (s .fed + suc (i .0)) h))
+      line false e = rest (λ i l q. true≢false (sym (any-at (λ i. eqb j (s .fed + suc i)) k i l (eq-eqb j (s .fed + suc i) q)) ∙ e))
+          (any (λ r. eqb j (startPlace L r)) (runsAfter s cells)) refl (any (λ r. eqb j (endPlace L r)) (runsAfter s cells)) refl

@@ -53,10 +53,12 @@ set-fits (x ∷ ws) zero v small fits (suc j) = fits (suc j)
 set-fits (x ∷ ws) (suc i) v small fits zero = fits 0
 set-fits (x ∷ ws) (suc i) v small fits (suc j) = set-fits ws i v small (λ m. fits (suc m)) j
 
-setAll-fits : (place value : ℕ → ℕ) (n : ℕ) (ws : List ℕ) → ((i : ℕ) → i < n → value i < 4294967296) → Words32 ws → Words32 (setAll place value n ws)
+setAll-fits : (place value : ℕ → ℕ) (n : ℕ) (ws : List ℕ) → ((i : ℕ) → i < n → value i < 4294967296) → Words32 ws
+    → Words32 (setAll place value n ws)
 unfolding setAll
 setAll-fits place value zero ws small fits = fits
-setAll-fits place value (suc n) ws small fits = set-fits (setAll place value n ws) (place n) (value n) (small n (le-refl (suc n))) (setAll-fits place value n ws (λ i l. small i (omega arith)) fits)
+setAll-fits place value (suc n) ws small fits = set-fits (setAll place value n ws) (place n) (value n) (small n (le-refl (suc n)))
+    (setAll-fits place value n ws (λ i l. small i (omega arith)) fits)
 
 pub open-fits : (ws : List ℕ) → Words32 ws → Words32 (openWords ws)
 open-fits ws fits = set-fits ws 0 0 (omega arith) fits
@@ -115,7 +117,8 @@ module _ (s : Session) (ws : List ℕ) (S : Sound s ws) where
 
 -- ---- a feed
 
-module _ (s : Session) (ws : List ℕ) (k : ℕ) (cells : List Bool) (no-cause : feedCauseOf s ws k cells ≡ 0) (fits : Words32 ws) (ws′ : List ℕ) (W : FeedWords s ws k cells ws′) where
+module _ (s : Session) (ws : List ℕ) (k : ℕ) (cells : List Bool) (no-cause : feedCauseOf s ws k cells ≡ 0) (fits : Words32 ws)
+    (ws′ : List ℕ) (W : FeedWords s ws k cells ws′) where
   -- L, w, the runs afterwards, and the new ones
   abbrev L : ℕ
   L = linesOf s
@@ -137,7 +140,8 @@ module _ (s : Session) (ws : List ℕ) (k : ℕ) (cells : List Bool) (no-cause :
 
   -- the record is sound again, so that the line starts, runs and parents that the words then hold fit
   S′ : Sound (feedRecord s ws k cells) ws′
-  S′ = sound-after s ws (cellsOf s ws) H k cells (G .few) (G .whole) (G .is-sound .shape .memory) ws′ W (G .is-sound .words .parents) (G .is-sound)
+  S′ = sound-after s ws (cellsOf s ws) H k cells (G .few) (G .whole) (G .is-sound .shape .memory) ws′ W (G .is-sound .words .parents)
+      (G .is-sound)
 
   placed : Wrote s ws k cells ws′
   placed = written s ws (cellsOf s ws) H k cells (G .few) (G .whole) (G .is-sound .shape .memory) ws′ W
@@ -154,8 +158,17 @@ module _ (s : Session) (ws : List ℕ) (k : ℕ) (cells : List Bool) (no-cause :
   with-runs : Words32 (withRuns s ws k cells)
   unfolding withRuns withLines runsAfter
   with-runs =
-      setAll-fits _ _ new _ (λ i h. let u = run-inside (s .figures .runs + i) (omega arith) in omega (arith, u .fits, limits s ws (G .is-sound) .0))
-      (setAll-fits _ _ new _ (λ i h. let u = run-inside (s .figures .runs + i) (omega arith) in omega (arith, u .full, u .fits, limits s ws (G .is-sound) .0))
+      setAll-fits _ _ new _ (λ i h. let u = run-inside (s .figures .runs + i) (omega arith) in omega (
+        arith,
+        u .fits,
+        limits s ws (G .is-sound) .0,
+      ))
+      (setAll-fits _ _ new _ (λ i h. let u = run-inside (s .figures .runs + i) (omega arith) in omega (
+        arith,
+        u .full,
+        u .fits,
+        limits s ws (G .is-sound) .0,
+      ))
       (setAll-fits _ _ k ws (λ i h. start-fits (s .fed + suc i) (omega arith)) fits))
 
   parent-fits : (r : ℕ) → r < after → parentOf L ws′ r < 4294967296
@@ -166,14 +179,18 @@ module _ (s : Session) (ws : List ℕ) (k : ℕ) (cells : List Bool) (no-cause :
   feed-fits j = go (any (λ r. eqb j (parentPlace L r)) after) refl
     where
       go : (b : Bool) → any (λ r. eqb j (parentPlace L r)) after ≡ b → getD ws′ j 0 < 4294967296
-      go true e = let f = any-found (λ r. eqb j (parentPlace L r)) after e in rw (eqb-true j (parentPlace L (f .0)) (f .2)) (parent-fits (f .0) (f .1))
+      go true e =
+          let f = any-found (λ r. eqb j (parentPlace L r)) after e in
+          rw (eqb-true j (parentPlace L (f .0)) (f .2)) (parent-fits (f .0) (f .1))
       go false e =
-          let no-parent : NoParent L after j = λ r l q. true≢false (sym (any-at (λ r. eqb j (parentPlace L r)) after r l (eq-eqb j (parentPlace L r) q)) ∙ e) in
+          let no-parent : NoParent L after j = λ r l q. true≢false
+          (sym (any-at (λ r. eqb j (parentPlace L r)) after r l (eq-eqb j (parentPlace L r) q)) ∙ e) in
           rw (W .others j no-parent) (with-runs j)
 
 -- ---- the promises, on every record: words stay u32s
 
-pub feed-words-fit : (s : Session) (ws : List ℕ) (k : ℕ) (cells : List Bool) (a : Answer) (s′ : Session) (ws′ : List ℕ) → FeedPromise s ws k cells a s′ ws′ → Words32 ws → Words32 ws′
+pub feed-words-fit : (s : Session) (ws : List ℕ) (k : ℕ) (cells : List Bool) (a : Answer) (s′ : Session) (ws′ : List ℕ)
+    → FeedPromise s ws k cells a s′ ws′ → Words32 ws → Words32 ws′
 feed-words-fit s ws k cells a s′ ws′ P fits = go (feedCauseOf s ws k cells) refl
   where
     go : (c : ℕ) → feedCauseOf s ws k cells ≡ c → Words32 ws′
@@ -186,12 +203,17 @@ unfolding kept
 named-fit s ws zero is-sound fits = names-fit s ws (is-sound refl) fits
 named-fit s ws (suc c) is-sound fits = fits
 
-pub read-words-fit : (kind : Number) (s : Session) (ws : List ℕ) (out : List (Value kind)) (a : Answer) (s′ : Session) (ws′ : List ℕ) (out′ : List (Value kind)) → ReadPromise kind s ws out a s′ ws′ out′ → Words32 ws → Words32 ws′
+pub read-words-fit : (kind : Number) (s : Session) (ws : List ℕ) (out : List (Value kind)) (a : Answer) (s′ : Session) (ws′ : List ℕ)
+    (out′ : List (Value kind)) → ReadPromise kind s ws out a s′ ws′ out′ → Words32 ws → Words32 ws′
 read-words-fit kind s ws out a s′ ws′ out′ P fits =
     subst Words32 (sym (P .words))
-    (named-fit s ws (readCauseOf kind s ws (length out)) (λ e. sound-right s ws (read-accepted (sound s ws) (length out) (size (shapeOf s)) (holds kind (rootCount s ws)) (unfold readCauseOf in e) .0)) fits)
+    (named-fit s ws (readCauseOf kind s ws (length out))
+    (λ e. sound-right s ws (read-accepted (sound s ws) (length out) (size (shapeOf s)) (holds kind (rootCount s ws))
+    (unfold readCauseOf in e) .0)) fits)
 
-pub sizes-words-fit : (s : Session) (ws out : List ℕ) (a : Answer) (s′ : Session) (ws′ out′ : List ℕ) → SizesPromise s ws out a s′ ws′ out′ → Words32 ws → Words32 ws′
+pub sizes-words-fit : (s : Session) (ws out : List ℕ) (a : Answer) (s′ : Session) (ws′ out′ : List ℕ) → SizesPromise s ws out a s′ ws′ out′
+    → Words32 ws → Words32 ws′
 sizes-words-fit s ws out a s′ ws′ out′ P fits =
     subst Words32 (sym (P .words))
-    (named-fit s ws (sizesCauseOf s ws (length out)) (λ e. sound-right s ws (sizes-accepted (sound s ws) (length out) (rootCount s ws) (unfold sizesCauseOf in e) .0)) fits)
+    (named-fit s ws (sizesCauseOf s ws (length out))
+    (λ e. sound-right s ws (sizes-accepted (sound s ws) (length out) (rootCount s ws) (unfold sizesCauseOf in e) .0)) fits)

@@ -46,7 +46,8 @@ module _ (kind : Number) (shape structure ws : List ℕ) (cells : List Bool) (ou
   -- refused before anything is written
   pub frame-refused : 0 < early → FramePromise kind shape structure ws cells out (refused early) ws out
   frame-refused h = record {
-    said = sym (unless-some late (early - 1) (counted (groupsOf shape (allFed shape structure cells)) (figures shape (allFed shape structure cells))) known ∙ ap refused (sym some));
+    said = sym (unless-some late (early - 1) (counted (groupsOf shape (allFed shape structure cells))
+        (figures shape (allFed shape structure cells))) known ∙ ap refused (sym some));
     output = sym (kept-old out (map (write kind) (labels shape structure cells)) late (early - 1) known);
     refusal = λ l. refl;
     accepted = λ e. absurd (omega arith);
@@ -56,7 +57,8 @@ module _ (kind : Number) (shape structure ws : List ℕ) (cells : List Bool) (ou
       some = omega arith
 
       known : late ≡ suc (early - 1)
-      known = unfold frameCauseOf in frame-known shape structure (length ws) (length cells) (length out) (early - 1) (holds kind (groupsOf shape (allFed shape structure cells))) (unfold earlyCauseOf in some)
+      known = unfold frameCauseOf in frame-known shape structure (length ws) (length cells) (length out) (early - 1)
+          (holds kind (groupsOf shape (allFed shape structure cells))) (unfold earlyCauseOf in some)
 
   -- refused with 10, its memory is as after feeding
   pub frame-ten : (ws′ : List ℕ) (F : FrameWords kind shape structure ws cells out ws′) → late ≡ 10 → ws′ ≡ F .fed-words
@@ -71,7 +73,8 @@ module _ (kind : Number) (shape structure ws : List ℕ) (cells : List Bool) (ou
     -- what is left is a reading's cause
     pub cause-read : late ≡ cause shape (allFed shape structure cells) (read kind out)
     unfolding cause frameCauseOf
-    cause-read = frame-reads shape structure (length ws) (length cells) (length out) (holds kind (groupsOf shape (allFed shape structure cells))) (unfold earlyCauseOf in no-cause)
+    cause-read = frame-reads shape structure (length ws) (length cells) (length out)
+        (holds kind (groupsOf shape (allFed shape structure cells))) (unfold earlyCauseOf in no-cause)
 
     A : Allowed shape structure (length ws)
     A = open-accepted shape structure (length ws) (frame-facts .0)
@@ -101,7 +104,9 @@ module _ (kind : Number) (shape structure ws : List ℕ) (cells : List Bool) (ou
     -- its runs are those of the cells, and the memory has room for them
     pub frame-runs : runsAfter s cells ≡ runs shape structure cells
     unfolding runsAfter
-    frame-runs = zero-add (runs (shapeOf s) (structureOf s) cells) ∙ ap₂ (λ (d : List ℕ) (b : List ℕ). runs d b cells) (opened-shape shape structure ws A) (opened-structure shape structure ws A)
+    frame-runs =
+        zero-add (runs (shapeOf s) (structureOf s) cells)
+        ∙ ap₂ (λ (d : List ℕ) (b : List ℕ). runs d b cells) (opened-shape shape structure ws A) (opened-structure shape structure ws A)
 
     pub frame-lines : linesOf s ≡ lines shape
     frame-lines = ap lines (opened-shape shape structure ws A)
@@ -121,7 +126,9 @@ module _ (kind : Number) (shape structure ws : List ℕ) (cells : List Bool) (ou
       shape-fed = feed-shape s vs (lines shape) cells ∙ opened-shape shape structure ws A
 
       state-fed : stateOf s₁ ws₁ ≡ allFed shape structure cells
-      state-fed = fed-state s vs I (lines shape) cells frame-feeds ws₁ W ∙ ap (λ (p : State). feeds p (lines shape) cells) (opened-state shape structure ws A)
+      state-fed =
+          fed-state s vs I (lines shape) cells frame-feeds ws₁ W
+          ∙ ap (λ (p : State). feeds p (lines shape) cells) (opened-state shape structure ws A)
 
       -- a reading of it has the whole frame's cause
       cause-late : readCauseOf kind s₁ ws₁ (length out) ≡ late
@@ -130,7 +137,8 @@ module _ (kind : Number) (shape structure ws : List ℕ) (cells : List Bool) (ou
           ∙ ap₂ (λ (d : List ℕ) (p : State). cause d p (read kind out)) shape-fed state-fed
           ∙ sym cause-read
 
-      labels-late : map (write kind) (labels (shapeOf s₁) (structureOf s₁) (cellsOf s₁ ws₁)) ≡ map (write kind) (labels shape structure cells)
+      labels-late : map (write kind) (labels (shapeOf s₁) (structureOf s₁) (cellsOf s₁ ws₁))
+          ≡ map (write kind) (labels shape structure cells)
       unfolding feeds
       labels-late = ap₂ (λ (d : List ℕ) (p : State). map (write kind) (labels d (p .structure) (p .cells))) shape-fed state-fed
 
@@ -139,24 +147,32 @@ module _ (kind : Number) (shape structure ws : List ℕ) (cells : List Bool) (ou
           → FramePromise kind shape structure ws cells out a ws′ out′
       frame-read a s′ ws′ out′ R = record {
         said = R .said ∙ unless-same (readCauseOf kind s₁ ws₁ (length out)) late _ _ cause-late (λ e. figures-late);
-        output = R .output ∙ kept-same (readCauseOf kind s₁ ws₁ (length out)) late out _ _ cause-late (λ e. inv-numbers s₁ ws₁ inv-fed kind ∙ labels-late);
+        output =
+            R .output
+            ∙ kept-same (readCauseOf kind s₁ ws₁ (length out)) late out _ _ cause-late (λ e. inv-numbers s₁ ws₁ inv-fed kind ∙ labels-late);
         refusal = λ l. absurd (omega arith);
         accepted = λ e. record {
           answer = fed (lines shape) (s₁ .figures);
           session = s₁;
           fed-words = ws₁;
-          fed-all = subst (λ (n : ℕ). FeedPromise s vs (lines shape) cells (fed n (s₁ .figures)) s₁ ws₁) (zero-add (lines shape)) (accepted-promise s vs (lines shape) cells G ws₁ W);
+          fed-all = subst (λ (n : ℕ). FeedPromise s vs (lines shape) cells (fed n (s₁ .figures)) s₁ ws₁) (zero-add (lines shape))
+              (accepted-promise s vs (lines shape) cells G ws₁ W);
           names = R .words ∙ ap (λ (c : ℕ). kept c ws₁ (withNames s₁ ws₁)) cause-late;
         };
       }
         where
-          figures-late : countedOf s₁ ws₁ ≡ counted (groupsOf shape (allFed shape structure cells)) (figures shape (allFed shape structure cells))
-          figures-late = ap₂ counted (inv-n s₁ ws₁ inv-fed) (inv-figures s₁ ws₁ inv-fed) ∙ ap₂ (λ (d : List ℕ) (p : State). counted (groupsOf d p) (figures d p)) shape-fed state-fed
+          figures-late : countedOf s₁ ws₁
+              ≡ counted (groupsOf shape (allFed shape structure cells)) (figures shape (allFed shape structure cells))
+          figures-late =
+              ap₂ counted (inv-n s₁ ws₁ inv-fed) (inv-figures s₁ ws₁ inv-fed)
+              ∙ ap₂ (λ (d : List ℕ) (p : State). counted (groupsOf d p) (figures d p)) shape-fed state-fed
 
     -- any blocks that add up to L
     pub frame-blocks : (ks : List ℕ) (s₁ : Session) (ws₁ : List ℕ) → sum ks ≡ lines shape → Fills (width shape) s vs ks cells s₁ ws₁
-        → (a : Answer) (s′ : Session) (ws′ : List ℕ) (out′ : List (Value kind)) → ReadPromise kind s₁ ws₁ out a s′ ws′ out′ → FramePromise kind shape structure ws cells out a ws′ out′
+        → (a : Answer) (s′ : Session) (ws′ : List ℕ) (out′ : List (Value kind)) → ReadPromise kind s₁ ws₁ out a s′ ws′ out′ → FramePromise
+        kind shape structure ws cells out a ws′ out′
     frame-blocks ks s₁ ws₁ e F a s′ ws′ out′ R =
-        let O = fills-feed F (I .is-sound) (ap width (sym (opened-shape shape structure ws A))) (rw (opened-shape shape structure ws A) (omega (arith, e))) in
+        let O = fills-feed F (I .is-sound) (ap width (sym (opened-shape shape structure ws A)))
+        (rw (opened-shape shape structure ws A) (omega (arith, e))) in
         frame-read ws₁ (subst (λ (n : ℕ). FeedWords s vs n cells ws₁) e (O .words)) a s′ ws′ out′
         (subst (λ (x : Session). ReadPromise kind x ws₁ out a s′ ws′ out′) (O .session ∙ ap (λ (n : ℕ). feedRecord s vs n cells) e) R)

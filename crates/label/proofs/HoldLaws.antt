@@ -42,12 +42,17 @@ module _ (s : Session) (ws : List ℕ) where
         record {
           low = leb-true _ _ (and-left (leb (lineStart ws (p / w)) r) (ltb r (lineStart ws (suc (p / w)))) a);
           high = ltb-true _ _ (and-right (leb (lineStart ws (p / w)) r) (ltb r (lineStart ws (suc (p / w)))) a);
-          covers = (leb-true _ _ (and-left (leb (runStart (linesOf s) ws r) (p % w)) (ltb (p % w) (runEnd (linesOf s) ws r)) b), ltb-true _ _ (and-right (leb (runStart (linesOf s) ws r) (p % w)) (ltb (p % w) (runEnd (linesOf s) ws r)) b));
+          covers = (
+            leb-true _ _ (and-left (leb (runStart (linesOf s) ws r) (p % w)) (ltb (p % w) (runEnd (linesOf s) ws r)) b),
+            ltb-true _
+                _ (and-right (leb (runStart (linesOf s) ws r) (p % w)) (ltb (p % w) (runEnd (linesOf s) ws r)) b),
+          );
         }
 
     pub parts-hold : Holds p r → holdsCell s ws p r ≡ true
     unfolding holdsCell
-    parts-hold h = and-true of-line of-column (and-true _ _ (le-leb _ _ (h .low)) (lt-ltb _ _ (h .high))) (and-true _ _ (le-leb _ _ (h .covers .0)) (lt-ltb _ _ (h .covers .1)))
+    parts-hold h = and-true of-line of-column (and-true _ _ (le-leb _ _ (h .low)) (lt-ltb _ _ (h .high)))
+        (and-true _ _ (le-leb _ _ (h .covers .0)) (lt-ltb _ _ (h .covers .1)))
 
   -- ---- the cells held
 

@@ -65,7 +65,8 @@ module _ (s : Session) (ws : List ℕ) (I : Inv s ws) where
   pub inv-n : rootCount s ws ≡ groupsOf shape (stateOf s ws)
   unfolding rootCount groupsOf
   inv-n =
-      roots-groups parent (s .figures .runs) (I .is-sound .words .parents) (visited s ws) (I .grouped) (s .figures .runs) (le-refl (s .figures .runs))
+      roots-groups parent (s .figures .runs) (I .is-sound .words .parents) (visited s ws) (I .grouped) (s .figures .runs)
+      (le-refl (s .figures .runs))
       ∙ ap (groups (λ r. true) (visited s ws)) inv-runs
       ∙ groups-visited shape structure cells (s .fed) (H .fits)
 
@@ -73,7 +74,12 @@ module _ (s : Session) (ws : List ℕ) (I : Inv s ws) where
   pub inv-figures : s .figures ≡ figures shape (stateOf s ws)
   unfolding figures
   inv-figures =
-      let j : s .figures .joins ≡ runs shape structure cells - groupsOf shape (stateOf s ws) = omega (arith, n-joins s ws (I .is-sound), inv-n, inv-runs) in
+      let j : s .figures .joins ≡ runs shape structure cells - groupsOf shape (stateOf s ws) = omega (
+        arith,
+        n-joins s ws (I .is-sound),
+        inv-n,
+        inv-runs,
+      ) in
       ap₂ (λ (r : ℕ) (j : ℕ). record { runs = r; joins = j }) inv-runs j
 
   -- each cell's number
@@ -84,10 +90,12 @@ module _ (s : Session) (ws : List ℕ) (I : Inv s ws) where
       by-run : cond (nonzero cells p) (number (λ r. true) (visited s ws) (runOf shape structure cells p)) 0 ≡ label shape structure cells p
       by-run = number-visited shape structure cells (s .fed) (H .fits) p h
 
-      in-run : nonzero cells p ≡ true → numberIn parent (holderOf s ws p) ≡ number (λ r. true) (visited s ws) (runOf shape structure cells p)
+      in-run : nonzero cells p ≡ true
+          → numberIn parent (holderOf s ws p) ≡ number (λ r. true) (visited s ws) (runOf shape structure cells p)
       in-run e =
           ap (numberIn parent) (stores-holder s ws cells H p e)
-          ∙ number-groups parent (s .figures .runs) (I .is-sound .words .parents) (visited s ws) (I .grouped) (runOf shape structure cells p) (stores-below s ws cells H p e)
+          ∙ number-groups parent (s .figures .runs) (I .is-sound .words .parents) (visited s ws) (I .grouped)
+          (runOf shape structure cells p) (stores-below s ws cells H p e)
 
       go : (b : Bool) → nonzero cells p ≡ b → cond (nonzero cells p) (numberIn parent (holderOf s ws p)) 0 ≡ label shape structure cells p
       go true e = rw (e, in-run e) (rw e at by-run)

@@ -11,7 +11,8 @@ use Rattle.groups.proofs.RepLaws.{Ends}
 use Rattle.groups.proofs.VisitLaws.{ends-visit}
 use Rattle.frame.specs.Touches.{frameTouches}
 use Rattle.frame.specs.Kinds.{Cells, flags, Number, Value}
-use Rattle.frame.specs.Plain.{Call, feed, read, sizes, Answer, fed, counted, nothing, numbers, counts, Answered, written, unless, kept, feeds, groupsOf, figures, cause, answer, answered, next}
+use Rattle.frame.specs.Plain.{Call, feed, read, sizes, Answer, fed, counted, nothing, numbers, counts, Answered, written, unless, kept}
+use Rattle.frame.specs.Plain.{feeds, groupsOf, figures, cause, answer, answered, next}
 use Rattle.frame.specs.Words.{parentOf}
 use Rattle.frame.proofs.RunGroupLaws.{touches-runs}
 use Rattle.frame.proofs.GrowLaws.{rep-grow}
@@ -35,7 +36,8 @@ use Rattle.label.proofs.Invariant.{stateOf, visited, Inv, inv-runs, inv
 
 -- ---- a feed that is accepted
 
-module _ (s : Session) (ws : List ℕ) (I : Inv s ws) (k : ℕ) (more : List Bool) (no-cause : feedCauseOf s ws k more ≡ 0) (ws′ : List ℕ) (W : FeedWords s ws k more ws′) where
+module _ (s : Session) (ws : List ℕ) (I : Inv s ws) (k : ℕ) (more : List Bool) (no-cause : feedCauseOf s ws k more ≡ 0) (ws′ : List ℕ)
+    (W : FeedWords s ws k more ws′) where
   H : Stores s ws (cellsOf s ws)
   H = sound-stores s ws (I .is-sound)
 
@@ -44,23 +46,27 @@ module _ (s : Session) (ws : List ℕ) (I : Inv s ws) (k : ℕ) (more : List Boo
 
   -- the words hold the lines fed before and the new ones
   pub fed-cells : cellsOf (feedRecord s ws k more) ws′ ≡ cellsOf s ws ++ more
-  fed-cells = stores-cells (feedRecord s ws k more) ws′ (cellsOf s ws ++ more) (stores-after s ws (cellsOf s ws) H k more (G .few) (G .whole) (I .is-sound .shape .memory) ws′ W)
+  fed-cells = stores-cells (feedRecord s ws k more) ws′ (cellsOf s ws ++ more)
+      (stores-after s ws (cellsOf s ws) H k more (G .few) (G .whole) (I .is-sound .shape .memory) ws′ W)
 
   pub fed-sound : Sound (feedRecord s ws k more) ws′
-  fed-sound = sound-after s ws (cellsOf s ws) H k more (G .few) (G .whole) (I .is-sound .shape .memory) ws′ W (I .is-sound .words .parents) (I .is-sound)
+  fed-sound = sound-after s ws (cellsOf s ws) H k more (G .few) (G .whole) (I .is-sound .shape .memory) ws′ W (I .is-sound .words .parents)
+      (I .is-sound)
 
   -- the grouping held before is that of the old lines' touches
   before : (a : ℕ) → rep (groupingOf s ws) a ≡ rep (visited s ws) a
   before = grouping-rep-all (parentOf (linesOf s) ws) (s .figures .runs) (I .is-sound .words .parents) (visited s ws) ends (I .grouped)
     where
       touched : Ends (λ r. r < s .figures .runs) (frameTouches (shapeOf s) (structureOf s) (cellsOf s ws) 0 (s .fed))
-      touched = subst (λ (n : ℕ). Ends (λ r. r < n) (frameTouches (shapeOf s) (structureOf s) (cellsOf s ws) 0 (s .fed))) (sym (inv-runs s ws I)) (touches-runs (shapeOf s) (structureOf s) (cellsOf s ws) (s .fed) (H .fits))
+      touched = subst (λ (n : ℕ). Ends (λ r. r < n) (frameTouches (shapeOf s) (structureOf s) (cellsOf s ws) 0 (s .fed)))
+          (sym (inv-runs s ws I)) (touches-runs (shapeOf s) (structureOf s) (cellsOf s ws) (s .fed) (H .fits))
 
       ends : Ends (λ r. r < s .figures .runs) (visited s ws)
       ends = ends-visit (λ r. r < s .figures .runs) (frameTouches (shapeOf s) (structureOf s) (cellsOf s ws) 0 (s .fed)) [] touched tt
 
   -- so the one held afterwards is that of all lines' touches
-  edges-after : (r : ℕ) → rep (feedEdges s ws k more) r ≡ rep (visit (frameTouches (shapeOf s) (structureOf s) (cellsOf s ws ++ more) 0 (s .fed + k)) []) r
+  edges-after : (r : ℕ)
+      → rep (feedEdges s ws k more) r ≡ rep (visit (frameTouches (shapeOf s) (structureOf s) (cellsOf s ws ++ more) 0 (s .fed + k)) []) r
   unfolding feedEdges
   edges-after r =
       ap (λ (es : List Edge). rep (visit es (groupingOf s ws)) r) (touches-after s ws (cellsOf s ws) H k more (G .few) (G .whole))
@@ -70,7 +76,9 @@ module _ (s : Session) (ws : List ℕ) (I : Inv s ws) (k : ℕ) (more : List Boo
   unfolding feedRecord shapeOf structureOf
   fed-inv = record {
     is-sound = fed-sound;
-    grouped = λ r h. W .grouped r h ∙ edges-after r ∙ ap (λ (cells : List Bool). rep (visit (frameTouches (shapeOf s) (structureOf s) cells 0 (s .fed + k)) []) r) (sym fed-cells);
+    grouped =
+        λ r h. W .grouped r h ∙ edges-after r
+        ∙ ap (λ (cells : List Bool). rep (visit (frameTouches (shapeOf s) (structureOf s) cells 0 (s .fed + k)) []) r) (sym fed-cells);
   }
 
   pub fed-state : stateOf (feedRecord s ws k more) ws′ ≡ feeds (stateOf s ws) k more
@@ -108,7 +116,8 @@ module _ (s : Session) (ws : List ℕ) (I : Inv s ws) where
       ∙ unless-same (feedCauseOf s ws k (flags cells)) _ _ _ (feed-cause k cells)
       (λ e. ap (fed (s .fed + k)) (fed-figures s ws I k (flags cells) e ws′ (P .accepted e)))
 
-  pub feed-follows : (k : ℕ) (cells : Cells) (a : Answer) (s′ : Session) (ws′ : List ℕ) → FeedPromise s ws k (flags cells) a s′ ws′ → Follows s ws (feed k cells) (record { said = a; written = nothing }) s′ ws′
+  pub feed-follows : (k : ℕ) (cells : Cells) (a : Answer) (s′ : Session) (ws′ : List ℕ) → FeedPromise s ws k (flags cells) a s′ ws′
+      → Follows s ws (feed k cells) (record { said = a; written = nothing }) s′ ws′
   unfolding written
   feed-follows k cells a s′ ws′ P = go (feedCauseOf s ws k (flags cells)) refl
     where
@@ -123,28 +132,40 @@ module _ (s : Session) (ws : List ℕ) (I : Inv s ws) where
             same = says;
             keeps = fed-inv s ws I k (flags cells) e ws′ (P .accepted e);
             shaped = feed-shape s ws k (flags cells);
-            state = fed-state s ws I k (flags cells) e ws′ (P .accepted e) ∙ sym (next-feeds (shapeOf s) (stateOf s ws) k cells (sym (feed-cause k cells) ∙ e));
+            state =
+                fed-state s ws I k (flags cells) e ws′ (P .accepted e)
+                ∙ sym (next-feeds (shapeOf s) (stateOf s ws) k cells (sym (feed-cause k cells) ∙ e));
           })
       go (suc c) e =
           let to = P .session ∙ kept-old s (feedRecord s ws k (flags cells)) (feedCauseOf s ws k (flags cells)) c e in
           let stand = P .refusal (rw e (omega arith)) in
           subst (λ (x : Session). Follows s ws (feed k cells) (record { said = a; written = nothing }) x ws′) (sym to)
           (subst (λ (vs : List ℕ). Follows s ws (feed k cells) (record { said = a; written = nothing }) s vs) (sym stand)
-          (record { same = says; keeps = I; shaped = refl; state = sym (next-stays (shapeOf s) (stateOf s ws) k cells c (sym (feed-cause k cells) ∙ e)) }))
+          (record {
+            same = says;
+            keeps = I;
+            shaped = refl;
+            state =
+                sym (next-stays (shapeOf s) (stateOf s ws) k cells c (sym (feed-cause k cells) ∙ e));
+          }))
 
   -- ---- reading and sizes: the record stays, and name words are no part of the state
 
   named-inv : Inv s (withNames s ws)
   named-inv = record {
     is-sound = sound-named s ws (cellsOf s ws) H (I .is-sound);
-    grouped = λ r h. ap (λ (p : ℕ → ℕ). rootOf p r) (parents-stand s ws) ∙ I .grouped r h ∙ ap (λ (cells : List Bool). rep (visit (frameTouches (shapeOf s) (structureOf s) cells 0 (s .fed)) []) r) (sym (cells-named s ws (cellsOf s ws) H));
+    grouped =
+        λ r h. ap (λ (p : ℕ → ℕ). rootOf p r) (parents-stand s ws) ∙ I .grouped r h
+        ∙ ap (λ (cells : List Bool). rep (visit (frameTouches (shapeOf s) (structureOf s) cells 0 (s .fed)) []) r)
+        (sym (cells-named s ws (cellsOf s ws) H));
   }
     where
       H : Stores s ws (cellsOf s ws)
       H = sound-stores s ws (I .is-sound)
 
   named-state : stateOf s (withNames s ws) ≡ stateOf s ws
-  named-state = ap (λ (cells : List Bool). record { structure = structureOf s; fed = s .fed; cells = cells }) (cells-named s ws (cellsOf s ws) (sound-stores s ws (I .is-sound)))
+  named-state = ap (λ (cells : List Bool). record { structure = structureOf s; fed = s .fed; cells = cells })
+      (cells-named s ws (cellsOf s ws) (sound-stores s ws (I .is-sound)))
 
   -- whether the names were written or not
   names-keep : (c : ℕ) → Inv s (kept c ws (withNames s ws)) × (stateOf s (kept c ws (withNames s ws)) ≡ stateOf s ws)
@@ -167,7 +188,8 @@ module _ (s : Session) (ws : List ℕ) (I : Inv s ws) where
     unfolding readCauseOf cause
     read-cause = rw (is-sound, inv-n s ws I) refl
 
-    pub read-follows : (a : Answer) (s′ : Session) (ws′ : List ℕ) (out′ : List (Value kind)) → ReadPromise kind s ws out a s′ ws′ out′ → Follows s ws (read kind out) (record { said = a; written = numbers kind out′ }) s′ ws′
+    pub read-follows : (a : Answer) (s′ : Session) (ws′ : List ℕ) (out′ : List (Value kind)) → ReadPromise kind s ws out a s′ ws′ out′
+        → Follows s ws (read kind out) (record { said = a; written = numbers kind out′ }) s′ ws′
     unfolding answer written next
     read-follows a s′ ws′ out′ P =
         named-follows (read kind out) (readCauseOf kind s ws (length out)) (record { said = a; written = numbers kind out′ }) s′ ws′
@@ -181,7 +203,8 @@ module _ (s : Session) (ws : List ℕ) (I : Inv s ws) where
     unfolding sizesCauseOf cause
     sizes-cause = rw (is-sound, inv-n s ws I) refl
 
-    pub sizes-follows : (a : Answer) (s′ : Session) (ws′ out′ : List ℕ) → SizesPromise s ws out a s′ ws′ out′ → Follows s ws (sizes out) (record { said = a; written = counts out′ }) s′ ws′
+    pub sizes-follows : (a : Answer) (s′ : Session) (ws′ out′ : List ℕ) → SizesPromise s ws out a s′ ws′ out′
+        → Follows s ws (sizes out) (record { said = a; written = counts out′ }) s′ ws′
     unfolding answer written next
     sizes-follows a s′ ws′ out′ P =
         named-follows (sizes out) (sizesCauseOf s ws (length out)) (record { said = a; written = counts out′ }) s′ ws′

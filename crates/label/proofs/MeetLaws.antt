@@ -35,7 +35,8 @@ use Rattle.label.proofs.CallFunctions.{FeedResult, doOpen, withParents,
 -- ---- opening, reading, sizes: the functions are the promises' equations
 
 pub open-met : (shape structure ws : List ℕ)
-    → OpenPromise shape structure ws (doOpen shape structure ws .number) (doOpen shape structure ws .session) (doOpen shape structure ws .words)
+    → OpenPromise shape structure ws (doOpen shape structure ws .number) (doOpen shape structure ws .session)
+    (doOpen shape structure ws .words)
 unfolding doOpen
 open-met shape structure ws = record { said = refl; session = refl; words = refl }
 
@@ -44,7 +45,8 @@ pub read-met : (kind : Number) (s : Session) (ws : List ℕ) (out : List (Value 
 unfolding doRead
 read-met kind s ws out = record { said = refl; session = refl; words = refl; output = refl }
 
-pub sizes-met : (s : Session) (ws out : List ℕ) → SizesPromise s ws out (doSizes s ws out .said) s (doSizes s ws out .words) (doSizes s ws out .out)
+pub sizes-met : (s : Session) (ws out : List ℕ)
+    → SizesPromise s ws out (doSizes s ws out .said) s (doSizes s ws out .words) (doSizes s ws out .out)
 unfolding doSizes
 sizes-met s ws out = record { said = refl; session = refl; words = refl; output = refl }
 
@@ -65,12 +67,16 @@ module _ (s : Session) (ws : List ℕ) (k : ℕ) (cells : List Bool) (no-cause :
   G = cause-accepted s ws k cells no-cause
 
   parent-fits : (r : ℕ) → r < after → parentPlace L r < length ws
-  parent-fits r l = omega (arith, room s ws (cellsOf s ws) (sound-stores s ws (G .is-sound)) k cells (G .few) (G .whole) (G .is-sound .shape .memory) r l)
+  parent-fits r l = omega (
+    arith,
+    room s ws (cellsOf s ws) (sound-stores s ws (G .is-sound)) k cells (G .few) (G .whole) (G .is-sound .shape .memory) r l,
+  )
 
   -- each parent is its group's smallest run
   parent-is : (r : ℕ) → r < after → parentOf L (withParents s ws k cells) r ≡ rep es r
   unfolding withParents
-  parent-is r l = setAll-at (parentPlace L) (rep es) after (withRuns s ws k cells) (λ i j a b e. omega arith) r l (rw (length-withRuns s ws k cells) (parent-fits r l))
+  parent-is r l = setAll-at (parentPlace L) (rep es) after (withRuns s ws k cells) (λ i j a b e. omega arith) r l
+      (rw (length-withRuns s ws k cells) (parent-fits r l))
 
   with-parents : 0 < k → FeedWords s ws k cells (withParents s ws k cells)
   unfolding withParents
@@ -82,7 +88,8 @@ module _ (s : Session) (ws : List ℕ) (k : ℕ) (cells : List Bool) (no-cause :
     no-lines = λ e. absurd (omega arith);
   }
 
-words-met : (s : Session) (ws : List ℕ) (k : ℕ) (cells : List Bool) → feedCauseOf s ws k cells ≡ 0 → FeedWords s ws k cells (feedWords s ws k cells)
+words-met : (s : Session) (ws : List ℕ) (k : ℕ) (cells : List Bool) → feedCauseOf s ws k cells ≡ 0
+    → FeedWords s ws k cells (feedWords s ws k cells)
 unfolding feedWords
 words-met s ws zero cells no-cause = words-none s ws cells (cause-accepted s ws 0 cells no-cause)
 words-met s ws (suc k) cells no-cause = with-parents s ws (suc k) cells no-cause (omega arith)
@@ -100,13 +107,21 @@ feed-met s ws k cells = record {
 -- ---- whole frames
 
 pub frame-met : (kind : Number) (shape structure ws : List ℕ) (cells : List Bool) (out : List (Value kind))
-    → FramePromise kind shape structure ws cells out (doFrame kind shape structure ws cells out .said) (doFrame kind shape structure ws cells out .words) (doFrame kind shape structure ws cells out .out)
+    → FramePromise kind shape structure ws cells out (doFrame kind shape structure ws cells out .said)
+    (doFrame kind shape structure ws cells out .words) (doFrame kind shape structure ws cells out .out)
 unfolding doFrame
 frame-met kind shape structure ws cells out = record {
   said = refl;
   output = refl;
   refusal = λ h. kept-old ws words early (early - 1) (omega arith);
-  accepted = λ e. record { answer = after .said; session = after .session; fed-words = after .words; fed-all = unfold frameFeed in feed-met (openRecord shape structure) (openWords ws) (lines shape) cells; names = kept-new ws words early e };
+  accepted = λ e. record {
+    answer = after .said;
+    session = after .session;
+    fed-words = after .words;
+    fed-all = unfold frameFeed in feed-met
+        (openRecord shape structure) (openWords ws) (lines shape) cells;
+    names = kept-new ws words early e;
+  };
 }
   where
     early : ℕ
@@ -141,4 +156,9 @@ fills-met w s ws (k ∷ ks) cells e = go (fills-met w (d .session) (d .words) ks
 
     go : (s′ : Session) × (ws′ : List ℕ) × Fills w (d .session) (d .words) ks (drop (k * w) cells) s′ ws′
         → (s′ : Session) × (ws′ : List ℕ) × Fills w s ws (k ∷ ks) cells s′ ws′
-    go r = (r .0, r .1, subst (λ (l : List Bool). Fills w s ws (k ∷ ks) l (r .0) (r .1)) (take-append-drop (k * w) cells) (block (omega (arith, length-take (k * w) cells, enough)) (feed-met s ws k (take (k * w) cells)) (r .2)))
+    go r = (
+      r .0,
+      r .1,
+      subst (λ (l : List Bool). Fills w s ws (k ∷ ks) l (r .0) (r .1)) (take-append-drop (k * w) cells)
+          (block (omega (arith, length-take (k * w) cells, enough)) (feed-met s ws k (take (k * w) cells)) (r .2)),
+    )

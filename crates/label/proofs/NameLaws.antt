@@ -35,7 +35,8 @@ module _ (s : Session) (ws : List ℕ) where
   parents-stand = fun-ext (λ r. names-other _ (λ i h q. omega arith))
 
   -- and a run's name is its number
-  pub names-at : ((r : ℕ) → r < s .figures .runs → namePlace L r < length ws) → (r : ℕ) → r < s .figures .runs → nameOf L (withNames s ws) r ≡ numberIn (parentOf L ws) r
+  pub names-at : ((r : ℕ) → r < s .figures .runs → namePlace L r < length ws) → (r : ℕ) → r < s .figures .runs
+      → nameOf L (withNames s ws) r ≡ numberIn (parentOf L ws) r
   unfolding withNames
   names-at room r h = setAll-at (namePlace L) (numberIn (parentOf L ws)) (s .figures .runs) ws (λ a b x y q. omega arith) r h (room r h)
 
@@ -45,7 +46,9 @@ module _ (s : Session) (ws : List ℕ) where
       fits = H .fits;
       starts = λ ℓ h. names-other ℓ (λ r l q. omega (arith, H .fits .below)) ∙ H .starts ℓ h;
       runs-are = H .runs-are;
-      listed = λ r h. ap₂ (λ (x : ℕ) (y : ℕ). record { start = x; end = y }) (names-other _ (λ i l q. omega arith)) (names-other _ (λ i l q. omega arith)) ∙ H .listed r h;
+      listed =
+          λ r h. ap₂ (λ (x : ℕ) (y : ℕ). record { start = x; end = y }) (names-other _ (λ i l q. omega arith))
+          (names-other _ (λ i l q. omega arith)) ∙ H .listed r h;
     }
 
     pub cells-named : cellsOf s (withNames s ws) ≡ cellsOf s ws
@@ -53,6 +56,7 @@ module _ (s : Session) (ws : List ℕ) where
 
     pub sound-named : Sound s ws → Sound s (withNames s ws)
     sound-named S =
-        stores-sound s (withNames s ws) cells stores-named (S .shape .ranked) (S .shape .dimensions) (S .shape .limits) (rw length-names (S .shape .memory))
+        stores-sound s (withNames s ws) cells stores-named (S .shape .ranked) (S .shape .dimensions) (S .shape .limits)
+        (rw length-names (S .shape .memory))
         (subst (λ (p : ℕ → ℕ). (r : ℕ) → r < s .figures .runs → p r ≤ r) (sym parents-stand) (S .words .parents))
         (S .words .join-count ∙ ap (λ (p : ℕ → ℕ). nonRoots p (s .figures .runs)) (sym parents-stand))

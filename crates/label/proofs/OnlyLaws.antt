@@ -35,13 +35,17 @@ pub open-only : (shape structure ws : List ℕ) (a b : ℕ) (s t : Session) (ws�
     → OpenPromise shape structure ws b t vs → (a ≡ b) × (s ≡ t) × (ws′ ≡ vs)
 open-only shape structure ws a b s t ws′ vs P Q = (P .said ∙ sym (Q .said), P .session ∙ sym (Q .session), P .words ∙ sym (Q .words))
 
-pub read-only : (kind : Number) (s : Session) (ws : List ℕ) (out : List (Value kind)) (a b : Answer) (s′ t : Session) (ws′ vs : List ℕ) (out′ out″ : List (Value kind))
+pub read-only : (kind : Number) (s : Session) (ws : List ℕ) (out : List (Value kind)) (a b : Answer) (s′ t : Session) (ws′ vs : List ℕ)
+    (out′ out″ : List (Value kind))
     → ReadPromise kind s ws out a s′ ws′ out′ → ReadPromise kind s ws out b t vs out″ → (a ≡ b) × (s′ ≡ t) × (ws′ ≡ vs) × (out′ ≡ out″)
-read-only kind s ws out a b s′ t ws′ vs out′ out″ P Q = (P .said ∙ sym (Q .said), P .session ∙ sym (Q .session), P .words ∙ sym (Q .words), P .output ∙ sym (Q .output))
+read-only kind s ws out a b s′ t ws′ vs out′ out″ P Q =
+    (P .said ∙ sym (Q .said), P .session ∙ sym (Q .session), P .words ∙ sym (Q .words), P .output ∙ sym (Q .output))
 
-pub sizes-only : (s : Session) (ws out : List ℕ) (a b : Answer) (s′ t : Session) (ws′ vs out′ out″ : List ℕ) → SizesPromise s ws out a s′ ws′ out′
+pub sizes-only : (s : Session) (ws out : List ℕ) (a b : Answer) (s′ t : Session) (ws′ vs out′ out″ : List ℕ)
+    → SizesPromise s ws out a s′ ws′ out′
     → SizesPromise s ws out b t vs out″ → (a ≡ b) × (s′ ≡ t) × (ws′ ≡ vs) × (out′ ≡ out″)
-sizes-only s ws out a b s′ t ws′ vs out′ out″ P Q = (P .said ∙ sym (Q .said), P .session ∙ sym (Q .session), P .words ∙ sym (Q .words), P .output ∙ sym (Q .output))
+sizes-only s ws out a b s′ t ws′ vs out′ out″ P Q =
+    (P .said ∙ sym (Q .said), P .session ∙ sym (Q .session), P .words ∙ sym (Q .words), P .output ∙ sym (Q .output))
 
 -- ---- feeding: the parents of the runs are free, their roots are not
 
@@ -52,23 +56,39 @@ pub record Alike (L n : ℕ) (ws vs : List ℕ) : Type 0 where
   pub roots : (r : ℕ) → r < n → rootOf (parentOf L ws) r ≡ rootOf (parentOf L vs) r
 
 alike : (L n : ℕ) (ws vs : List ℕ) → ws ≡ vs → Alike L n ws vs
-alike L n ws vs e = record { long = ap length e; words = λ j h. ap (λ (l : List ℕ). getD l j 0) e; roots = λ r h. ap (λ (l : List ℕ). rootOf (parentOf L l) r) e }
+alike L n ws vs e = record {
+  long = ap length e;
+  words = λ j h. ap (λ (l : List ℕ). getD l j 0) e;
+  roots = λ r h.
+      ap (λ (l : List ℕ). rootOf (parentOf L l) r) e;
+}
 
-words-only : (s : Session) (ws : List ℕ) (k : ℕ) (cells : List Bool) (ws′ vs : List ℕ) → FeedWords s ws k cells ws′ → FeedWords s ws k cells vs
+words-only : (s : Session) (ws : List ℕ) (k : ℕ) (cells : List Bool) (ws′ vs : List ℕ) → FeedWords s ws k cells ws′
+    → FeedWords s ws k cells vs
     → Alike (linesOf s) (runsAfter s cells) ws′ vs
-words-only s ws k cells ws′ vs P Q = record { long = P .long ∙ sym (Q .long); words = λ j h. P .others j h ∙ sym (Q .others j h); roots = λ r h. P .grouped r h ∙ sym (Q .grouped r h) }
+words-only s ws k cells ws′ vs P Q = record {
+  long = P .long ∙ sym (Q .long);
+  words = λ j h. P .others j h ∙ sym (Q .others j h);
+  roots =
+      λ r h. P .grouped r h ∙ sym (Q .grouped r h);
+}
 
 pub feed-only : (s : Session) (ws : List ℕ) (k : ℕ) (cells : List Bool) (a b : Answer) (s′ t : Session) (ws′ vs : List ℕ)
-    → FeedPromise s ws k cells a s′ ws′ → FeedPromise s ws k cells b t vs → (a ≡ b) × (s′ ≡ t) × Alike (linesOf s) (runsAfter s cells) ws′ vs
+    → FeedPromise s ws k cells a s′ ws′ → FeedPromise s ws k cells b t vs → (a ≡ b) × (s′ ≡ t) × Alike (linesOf s)
+    (runsAfter s cells) ws′ vs
 feed-only s ws k cells a b s′ t ws′ vs P Q = (P .said ∙ sym (Q .said), P .session ∙ sym (Q .session), go (feedCauseOf s ws k cells) refl)
   where
     go : (c : ℕ) → feedCauseOf s ws k cells ≡ c → Alike (linesOf s) (runsAfter s cells) ws′ vs
     go zero e = words-only s ws k cells ws′ vs (P .accepted e) (Q .accepted e)
-    go (suc c) e = let some : 0 < feedCauseOf s ws k cells = omega arith in alike (linesOf s) (runsAfter s cells) ws′ vs (P .refusal some ∙ sym (Q .refusal some))
+    go (suc c) e =
+        let some : 0 < feedCauseOf s ws k cells = omega arith in
+        alike (linesOf s) (runsAfter s cells) ws′ vs (P .refusal some ∙ sym (Q .refusal some))
 
 -- ---- names are set alike
 
-module _ (s : Session) (ws vs : List ℕ) (low-w : (r : ℕ) → r < s .figures .runs → parentOf (linesOf s) ws r ≤ r) (low-v : (r : ℕ) → r < s .figures .runs → parentOf (linesOf s) vs r ≤ r) (room : (r : ℕ) → r < s .figures .runs → namePlace (linesOf s) r < length ws) (A : Alike (linesOf s) (s .figures .runs) ws vs) where
+module _ (s : Session) (ws vs : List ℕ) (low-w : (r : ℕ) → r < s .figures .runs → parentOf (linesOf s) ws r ≤ r)
+    (low-v : (r : ℕ) → r < s .figures .runs → parentOf (linesOf s) vs r ≤ r)
+    (room : (r : ℕ) → r < s .figures .runs → namePlace (linesOf s) r < length ws) (A : Alike (linesOf s) (s .figures .runs) ws vs) where
   abbrev L : ℕ
   L = linesOf s
 
@@ -76,24 +96,33 @@ module _ (s : Session) (ws vs : List ℕ) (low-w : (r : ℕ) → r < s .figures 
   names-only = record {
     long = length-names s ws ∙ A .long ∙ sym (length-names s vs);
     words = λ j h. go j h (any (λ r. eqb j (namePlace L r)) (s .figures .runs)) refl;
-    roots = λ r h. ap (λ (p : ℕ → ℕ). rootOf p r) (parents-stand s ws) ∙ A .roots r h ∙ ap (λ (p : ℕ → ℕ). rootOf p r) (sym (parents-stand s vs));
+    roots =
+        λ r h. ap (λ (p : ℕ → ℕ). rootOf p r) (parents-stand s ws) ∙ A .roots r h
+        ∙ ap (λ (p : ℕ → ℕ). rootOf p r) (sym (parents-stand s vs));
   }
     where
       Same : ℕ → Type 0
       Same j = getD (withNames s ws) j 0 ≡ getD (withNames s vs) j 0
 
       named : (r : ℕ) → r < s .figures .runs → Same (namePlace L r)
-      named r h = names-at s ws room r h ∙ numbers-same (parentOf L ws) (parentOf L vs) (s .figures .runs) low-w low-v (A .roots) r h ∙ sym (names-at s vs (λ i l. rw (← A .long) (room i l)) r h)
+      named r h =
+          names-at s ws room r h ∙ numbers-same (parentOf L ws) (parentOf L vs) (s .figures .runs) low-w low-v (A .roots) r h
+          ∙ sym (names-at s vs (λ i l. rw (← A .long) (room i l)) r h)
 
       go : (j : ℕ) → NoParent L (s .figures .runs) j → (b : Bool) → any (λ r. eqb j (namePlace L r)) (s .figures .runs) ≡ b → Same j
-      go j h true e = let f = any-found (λ r. eqb j (namePlace L r)) (s .figures .runs) e in subst Same (sym (eqb-true j (namePlace L (f .0)) (f .2))) (named (f .0) (f .1))
+      go j h true e =
+          let f = any-found (λ r. eqb j (namePlace L r)) (s .figures .runs) e in
+          subst Same (sym (eqb-true j (namePlace L (f .0)) (f .2))) (named (f .0) (f .1))
       go j h false e =
-          let no-name : (r : ℕ) → r < s .figures .runs → j ≢ namePlace L r = λ r l q. true≢false (sym (any-at (λ r. eqb j (namePlace L r)) (s .figures .runs) r l (eq-eqb j (namePlace L r) q)) ∙ e) in
+          let no-name : (r : ℕ) → r < s .figures .runs → j ≢ namePlace L r = λ r l q. true≢false
+          (sym (any-at (λ r. eqb j (namePlace L r)) (s .figures .runs) r l (eq-eqb j (namePlace L r) q)) ∙ e) in
           names-other s ws j no-name ∙ A .words j h ∙ sym (names-other s vs j no-name)
 
 -- ---- whole frames
 
-module _ (kind : Number) (shape structure ws : List ℕ) (cells : List Bool) (out : List (Value kind)) (a b : Answer) (ws′ vs′ : List ℕ) (out′ out″ : List (Value kind)) (P : FramePromise kind shape structure ws cells out a ws′ out′) (Q : FramePromise kind shape structure ws cells out b vs′ out″) where
+module _ (kind : Number) (shape structure ws : List ℕ) (cells : List Bool) (out : List (Value kind)) (a b : Answer) (ws′ vs′ : List ℕ)
+    (out′ out″ : List (Value kind)) (P : FramePromise kind shape structure ws cells out a ws′ out′)
+    (Q : FramePromise kind shape structure ws cells out b vs′ out″) where
   abbrev early : ℕ
   early = earlyCauseOf shape structure ws cells (length out)
 
@@ -111,13 +140,15 @@ module _ (kind : Number) (shape structure ws : List ℕ) (cells : List Bool) (ou
     fed-accepted : feedCauseOf s (openWords ws) (lines shape) cells ≡ 0
     fed-accepted = frame-feeds kind shape structure ws cells out no-cause
 
-    words : (vs : List ℕ) → (F : FrameWords kind shape structure ws cells out vs) → FeedWords s (openWords ws) (lines shape) cells (F .fed-words)
+    words : (vs : List ℕ) → (F : FrameWords kind shape structure ws cells out vs)
+        → FeedWords s (openWords ws) (lines shape) cells (F .fed-words)
     words vs F = F .fed-all .accepted fed-accepted
 
     session : (vs : List ℕ) → (F : FrameWords kind shape structure ws cells out vs) → F .session ≡ s₁
     session vs F = F .fed-all .session ∙ kept-new s s₁ (feedCauseOf s (openWords ws) (lines shape) cells) fed-accepted
 
-    named : (vs : List ℕ) → (F : FrameWords kind shape structure ws cells out vs) → vs ≡ kept late (F .fed-words) (withNames s₁ (F .fed-words))
+    named : (vs : List ℕ) → (F : FrameWords kind shape structure ws cells out vs)
+        → vs ≡ kept late (F .fed-words) (withNames s₁ (F .fed-words))
     named vs F = F .names ∙ ap (λ (x : Session). kept late (F .fed-words) (withNames x (F .fed-words))) (session vs F)
 
     module _ (F : FrameWords kind shape structure ws cells out ws′) (G : FrameWords kind shape structure ws cells out vs′) where
@@ -128,7 +159,8 @@ module _ (kind : Number) (shape structure ws : List ℕ) (cells : List Bool) (ou
       named-alike : Alike (linesOf s₁) (s₁ .figures .runs) (withNames s₁ (F .fed-words)) (withNames s₁ (G .fed-words))
       named-alike = names-only s₁ (F .fed-words) (G .fed-words) (low ws′ F) (low vs′ G) room fed-alike
         where
-          low : (vs : List ℕ) → (K : FrameWords kind shape structure ws cells out vs) → (r : ℕ) → r < s₁ .figures .runs → parentOf (linesOf s₁) (K .fed-words) r ≤ r
+          low : (vs : List ℕ) → (K : FrameWords kind shape structure ws cells out vs) → (r : ℕ) → r < s₁ .figures .runs
+              → parentOf (linesOf s₁) (K .fed-words) r ≤ r
           low vs K = unfold feedRecord shapeOf in words vs K .parents
 
           room : (r : ℕ) → r < s₁ .figures .runs → namePlace (linesOf s₁) r < length (F .fed-words)
@@ -138,17 +170,21 @@ module _ (kind : Number) (shape structure ws : List ℕ) (cells : List Bool) (ou
       kept-alike zero e =
           let left : ws′ ≡ withNames s₁ (F .fed-words) = named ws′ F ∙ kept-new (F .fed-words) (withNames s₁ (F .fed-words)) late e in
           let right : vs′ ≡ withNames s₁ (G .fed-words) = named vs′ G ∙ kept-new (G .fed-words) (withNames s₁ (G .fed-words)) late e in
-          subst (λ (x : List ℕ). Alike (linesOf s₁) (s₁ .figures .runs) x vs′) (sym left) (subst (λ (y : List ℕ). Alike (linesOf s₁) (s₁ .figures .runs) (withNames s₁ (F .fed-words)) y) (sym right) named-alike)
+          subst (λ (x : List ℕ). Alike (linesOf s₁) (s₁ .figures .runs) x vs′) (sym left)
+          (subst (λ (y : List ℕ). Alike (linesOf s₁) (s₁ .figures .runs) (withNames s₁ (F .fed-words)) y) (sym right) named-alike)
       kept-alike (suc c) e =
           let left : ws′ ≡ F .fed-words = named ws′ F ∙ kept-old (F .fed-words) (withNames s₁ (F .fed-words)) late c e in
           let right : vs′ ≡ G .fed-words = named vs′ G ∙ kept-old (G .fed-words) (withNames s₁ (G .fed-words)) late c e in
-          subst (λ (x : List ℕ). Alike (linesOf s₁) (s₁ .figures .runs) x vs′) (sym left) (subst (λ (y : List ℕ). Alike (linesOf s₁) (s₁ .figures .runs) (F .fed-words) y) (sym right) fed-alike)
+          subst (λ (x : List ℕ). Alike (linesOf s₁) (s₁ .figures .runs) x vs′) (sym left)
+          (subst (λ (y : List ℕ). Alike (linesOf s₁) (s₁ .figures .runs) (F .fed-words) y) (sym right) fed-alike)
 
       whole-alike : Alike (lines shape) (runs shape structure cells) ws′ vs′
       whole-alike =
           let stored : s₁ .figures .runs ≡ runsAfter s cells = (unfold feedRecord in refl) in
-          subst (λ (L : ℕ). Alike L (runs shape structure cells) ws′ vs′) (ap lines (feed-shape s (openWords ws) (lines shape) cells) ∙ frame-lines kind shape structure ws cells out no-cause)
-          (subst (λ (n : ℕ). Alike (linesOf s₁) n ws′ vs′) (stored ∙ frame-runs kind shape structure ws cells out no-cause) (kept-alike late refl))
+          subst (λ (L : ℕ). Alike L (runs shape structure cells) ws′ vs′)
+          (ap lines (feed-shape s (openWords ws) (lines shape) cells) ∙ frame-lines kind shape structure ws cells out no-cause)
+          (subst (λ (n : ℕ). Alike (linesOf s₁) n ws′ vs′) (stored ∙ frame-runs kind shape structure ws cells out no-cause)
+          (kept-alike late refl))
 
   -- answer, output and words, parents aside
   pub frame-only : (a ≡ b) × (out′ ≡ out″) × Alike (lines shape) (runs shape structure cells) ws′ vs′
@@ -156,4 +192,6 @@ module _ (kind : Number) (shape structure ws : List ℕ) (cells : List Bool) (ou
     where
       go : (c : ℕ) → early ≡ c → Alike (lines shape) (runs shape structure cells) ws′ vs′
       go zero e = whole-alike e (P .accepted e) (Q .accepted e)
-      go (suc c) e = let some : 0 < early = omega arith in alike (lines shape) (runs shape structure cells) ws′ vs′ (P .refusal some ∙ sym (Q .refusal some))
+      go (suc c) e =
+          let some : 0 < early = omega arith in
+          alike (lines shape) (runs shape structure cells) ws′ vs′ (P .refusal some ∙ sym (Q .refusal some))

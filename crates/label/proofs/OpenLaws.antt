@@ -45,7 +45,12 @@ module _ (shape structure ws : List ℕ) (A : Allowed shape structure (length ws
 
   opened-stores : Stores s ws′ []
   opened-stores = record {
-    fits = record { ranked = rw opened-shape (rank-right shape (A .ranked) .0); below = omega arith; whole = sym (zero-mul (width (shapeOf s))) };
+    fits = record {
+      ranked = rw opened-shape (rank-right shape (A .ranked) .0);
+      below = omega arith;
+      whole =
+          sym (zero-mul (width (shapeOf s)));
+    };
     starts = λ ℓ h. let z : ℓ ≡ 0 = omega arith in rw (z, start-zero (shapeOf s) (structureOf s) []) (getD-set-same ws 0 0 0 long);
     runs-are = sym (start-zero (shapeOf s) (structureOf s) []);
     listed = λ r h. absurd (not-suc-le-zero h);
@@ -56,7 +61,8 @@ module _ (shape structure ws : List ℕ) (A : Allowed shape structure (length ws
 
   opened-sound : Sound s ws′
   opened-sound =
-      stores-sound s ws′ [] opened-stores (rw opened-shape (A .ranked)) (rw opened-shape (A .dimensions)) (rw opened-shape (A .limits)) (rw (opened-shape, opened-structure, length-set ws 0 0) (A .enough))
+      stores-sound s ws′ [] opened-stores (rw opened-shape (A .ranked)) (rw opened-shape (A .dimensions)) (rw opened-shape (A .limits))
+      (rw (opened-shape, opened-structure, length-set ws 0 0) (A .enough))
       (λ r h. absurd (not-suc-le-zero h)) (unfold nonRoots count in refl)
 
   pub opened-inv : Inv s ws′
@@ -64,7 +70,8 @@ module _ (shape structure ws : List ℕ) (A : Allowed shape structure (length ws
 
   pub opened-state : stateOf s ws′ ≡ opened structure
   opened-state =
-      ap₂ (λ (bytes : List ℕ) (cells : List Bool). record { structure = bytes; fed = 0; cells = cells }) opened-structure (stores-cells s ws′ [] opened-stores)
+      ap₂ (λ (bytes : List ℕ) (cells : List Bool). record { structure = bytes; fed = 0; cells = cells }) opened-structure
+      (stores-cells s ws′ [] opened-stores)
 
 -- what an opening that answers 0 leaves
 pub record Starts (shape structure : List ℕ) (s : Session) (ws : List ℕ) : Type 0 where
@@ -72,11 +79,18 @@ pub record Starts (shape structure : List ℕ) (s : Session) (ws : List ℕ) : T
   pub shaped : shapeOf s ≡ shape
   pub state : stateOf s ws ≡ opened structure
 
-pub open-starts : (shape structure ws : List ℕ) (number : ℕ) (s : Session) (ws′ : List ℕ) → OpenPromise shape structure ws number s ws′ → number ≡ 0
+pub open-starts : (shape structure ws : List ℕ) (number : ℕ) (s : Session) (ws′ : List ℕ) → OpenPromise shape structure ws number s ws′
+    → number ≡ 0
     → Starts shape structure s ws′
 open-starts shape structure ws number s ws′ O z =
     let no-cause : openCause shape structure (length ws) ≡ 0 = sym (O .said) ∙ z in
     let A = open-accepted shape structure (length ws) no-cause in
-    subst (λ (x : Session). Starts shape structure x ws′) (sym (O .session ∙ kept-new blank (openRecord shape structure) (openCause shape structure (length ws)) no-cause))
-    (subst (λ (vs : List ℕ). Starts shape structure (openRecord shape structure) vs) (sym (O .words ∙ kept-new ws (openWords ws) (openCause shape structure (length ws)) no-cause))
-    (record { keeps = opened-inv shape structure ws A; shaped = opened-shape shape structure ws A; state = opened-state shape structure ws A }))
+    subst (λ (x : Session). Starts shape structure x ws′)
+    (sym (O .session ∙ kept-new blank (openRecord shape structure) (openCause shape structure (length ws)) no-cause))
+    (subst (λ (vs : List ℕ). Starts shape structure (openRecord shape structure) vs)
+    (sym (O .words ∙ kept-new ws (openWords ws) (openCause shape structure (length ws)) no-cause))
+    (record {
+      keeps = opened-inv shape structure ws A;
+      shaped = opened-shape shape structure ws A;
+      state = opened-state shape structure ws A;
+    }))

@@ -1,11 +1,12 @@
 -- A record's geometry, and when a record is sound.
 -- Assumes nothing.
 use mathlib.Core.Path.{_≡_, refl, sym, ap, _∙_, subst}
-use mathlib.Core.Bool.{Bool, true, false, cond, true≢false}
+use mathlib.Core.Bool.{Bool, true, false, not, cond, true≢false}
 use mathlib.Core.List.{List}
 use Prim.Native.Nat.{ℕ, _+_, _*_, _≤_, _<_, _^_}
 use native.Mathlib.Nat.{mul-assoc}
 use native.Mathlib.Omega.{arith}
+use borrow.Author.Tests.{not-true, not-false}
 use lib.ListN.{length}
 use Rattle.frame.specs.Shape.{size, width}
 use Rattle.frame.specs.Structure.{leftOn}
@@ -20,6 +21,7 @@ use Rattle.sound.specs.Stored.{wordsSound, PassReady}
 use Rattle.sound.proofs.StoredLaws.{words-right, right-words}
 use Rattle.causes.specs.declared.Checked.{Checked}
 use Rattle.causes.specs.Cases.{checkNumber}
+use Rattle.causes.proofs.OpenLaws.{found-cause}
 use Rattle.label.specs.declared.Session.{Session}
 use Rattle.label.specs.Record.{shapeOf, structureOf, linesOf}
 use Rattle.label.specs.Sound.{Sound, sound}
@@ -54,61 +56,75 @@ module _ (s : Session) (ws : List ℕ) (g : Geo) (K : GeoOf (s .rank) (s .shape)
 
 -- ---- soundness: what crate geo finds of the shape, then the words
 
-module _ (s : Session) (ws : List ℕ) (f : Shaped) (F : ShapeFound (s .rank) (s .shape) (s .structure) (length ws) (s .fed) f) where
-  unsound : sound s ws ≡ false → 6 ≡ soundCauseOf s ws
-  unsound e = rw e refl
-
-  not-sound : (Sound s ws → ⊥) → sound s ws ≡ false
-  not-sound never = go (sound s ws) refl
+module _ (s : Session) (ws : List ℕ) {f : Shaped} (F : ShapeFound (s .rank) (s .shape) (s .structure) (length ws) (s .fed) f) where
+  -- 6, where the record is not sound
+  unsound : (Sound s ws → ⊥) → {r : Checked} → checkNumber (r .check) ≡ 6 → RecordFound s (soundCauseOf s ws) r
+  unsound never {r} is = go (sound s ws) refl
     where
-      go : (b : Bool) → sound s ws ≡ b → sound s ws ≡ false
+      go : (b : Bool) → sound s ws ≡ b → RecordFound s (soundCauseOf s ws) r
       go true h = absurd (never (sound-right s ws h))
-      go false h = h
+      go false h = found-cause _ _ _ 6 (soundCauseOf s ws) r (omega arith) (rw h refl) is
 
   -- the clauses about shape and memory, of a sound record
   told : Sound s ws → f .sound ≡ true
   unfolding shapeOf structureOf
   told S = F .told ∙ right-shape-sound _ _ _ _ (S .shape)
 
-  pub shape-unsound : f .sound ≡ false → 6 ≡ soundCauseOf s ws
-  shape-unsound e = unsound (not-sound (λ S. true≢false (sym (told S) ∙ e)))
+  pub shape-unsound : not (f .sound) ≡ true → {r : Checked} → checkNumber (r .check) ≡ 6 → RecordFound s (soundCauseOf s ws) r
+  shape-unsound taken = unsound (λ S. true≢false (sym (told S) ∙ not-true (f .sound) taken))
 
-  module _ (yes : f .sound ≡ true) where
+  module _ (left : not (f .sound) ≡ false) where
     abbrev g : Geo
     g = f .geo
 
     K : GeoOf (s .rank) (s .shape) (s .structure) g
-    K = F .geometry yes
+    K = F .geometry (not-false (f .sound) left)
+
+    lines-are : g .lines ≡ linesOf s
+    lines-are = geo-lines s ws g K
+
+    width-is : g .width ≡ width (shapeOf s)
+    width-is = geo-width s ws g K
+
+    left-is : g .left ≡ leftOn (shapeOf s) (structureOf s)
+    left-is = geo-left s ws g K
 
     A : ShapeSound (shapeOf s) (structureOf s) (length ws) (s .fed)
     unfolding shapeOf structureOf
-    A = shape-sound-right _ _ _ _ (sym (F .told) ∙ yes)
+    A = shape-sound-right _ _ _ _ (sym (F .told) ∙ not-false (f .sound) left)
 
     -- the words that the pass may read
     words-are : wordsNeeded (shapeOf s) (structureOf s) ≡ g .lines + 1 + stride * (g .lines * mostRuns (g .left) (g .width))
     unfolding wordsNeeded perLine
-    words-are = rw (geo-lines s ws g K, geo-width s ws g K, geo-left s ws g K) (ap (λ (n : ℕ). linesOf s + 1 + n) (mul-assoc stride (linesOf s) (mostRuns (leftOn (shapeOf s) (structureOf s)) (width (shapeOf s)))))
+    words-are =
+        let most = mostRuns (leftOn (shapeOf s) (structureOf s)) (width (shapeOf s)) in
+        rw (lines-are, width-is, left-is) (ap (λ (n : ℕ). linesOf s + 1 + n) (mul-assoc stride (linesOf s) most))
 
     pub pass-ready : PassReady (f .geo .lines) (f .geo .width) (f .geo .left) (s .fed) ws
-    pass-ready =
-        record {
-          within = omega (arith, A .within, geo-lines s ws g K);
-          memory = omega (arith, words-are, A .memory);
-          short = omega (arith, geo-width s ws g K, within-limits (shapeOf s) (A .limits) .0);
-        }
+    pass-ready = record {
+      within = omega (arith, A .within, lines-are);
+      memory = omega (arith, words-are, A .memory);
+      short = omega (arith, width-is, within-limits (shapeOf s) (A .limits) .0);
+    }
 
     -- and what is left to test
-    module _ (t : Bool) (is : t ≡ wordsSound (f .geo .lines) (f .geo .width) (f .geo .left) (s .fed) (s .figures .runs) (s .figures .joins) ws) where
-      pub words-unsound : t ≡ false → 6 ≡ soundCauseOf s ws
-      words-unsound e = unsound (not-sound (λ S. true≢false (sym (all S) ∙ sym is ∙ e)))
+    module _ {t : Bool}
+        (is : t ≡ wordsSound (f .geo .lines) (f .geo .width) (f .geo .left) (s .fed) (s .figures .runs) (s .figures .joins) ws) where
+      pub words-unsound : not t ≡ true → {r : Checked} → checkNumber (r .check) ≡ 6 → RecordFound s (soundCauseOf s ws) r
+      words-unsound taken = unsound (λ S. true≢false (sym (all S) ∙ sym is ∙ not-true t taken))
         where
           all : Sound s ws → wordsSound (g .lines) (g .width) (g .left) (s .fed) (s .figures .runs) (s .figures .joins) ws ≡ true
-          all S = rw (geo-lines s ws g K, geo-width s ws g K, geo-left s ws g K) (right-words _ _ _ _ _ _ ws (S .words))
+          all S = rw (lines-are, width-is, left-is) (right-words _ _ _ _ _ _ ws (S .words))
 
-      pub words-found : t ≡ true → (r : Checked) → checkNumber (r .check) ≡ 0 → r .geo ≡ f .geo → RecordFound s (soundCauseOf s ws) r
-      words-found e r said same =
-          let S : Sound s ws = record { shape = A; words = words-right _ _ _ _ _ _ ws (rw (← geo-lines s ws g K, ← geo-width s ws g K, ← geo-left s ws g K) (sym is ∙ e)) } in
-          record {
-            number = said ∙ sym (ap (λ (b : Bool). cond b 0 6) (right-sound s ws S));
-            geometry = λ none. subst (GeoOf (s .rank) (s .shape) (s .structure)) (sym same) K;
+      pub words-found : not t ≡ false → {r : Checked} → (checkNumber (r .check) ≡ 0) × (r .geo ≡ f .geo)
+          → RecordFound s (soundCauseOf s ws) r
+      words-found stays P = record {
+        number = P .0 ∙ sym (ap (λ (b : Bool). cond b 0 6) (right-sound s ws S));
+        geometry = λ none. subst (GeoOf (s .rank) (s .shape) (s .structure)) (sym (P .1)) K;
+      }
+        where
+          S : Sound s ws
+          S = record {
+            shape = A;
+            words = words-right _ _ _ _ _ _ ws (rw (← lines-are, ← width-is, ← left-is) (sym is ∙ not-false t stays));
           }

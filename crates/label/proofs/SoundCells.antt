@@ -87,13 +87,18 @@ module _ (s : Session) (ws : List ℕ) (K : Sound s ws) where
     held-within : (i : ℕ) → i < length held → Within w (getD held i none)
     held-within i l =
         let k : i < few = rw held-length at l in
-        subst (Within w) (sym (held-at i k)) (record { full = K .words .nonempty (lineStart ws ℓ + i) (below i k); fits = K .words .inside (lineStart ws ℓ + i) (below i k) })
+        subst (Within w) (sym (held-at i k)) (record {
+          full = K .words .nonempty (lineStart ws ℓ + i) (below i k);
+          fits = K .words .inside
+              (lineStart ws ℓ + i) (below i k);
+        })
 
     held-next : (i : ℕ) → suc i < length held → getD held i none .end + gapOf left ≤ getD held (suc i) none .start
     held-next i l =
         let k : suc i < few = rw held-length at l in
         let e : lineStart ws ℓ + suc i ≡ suc (lineStart ws ℓ + i) = omega arith in
-        rw (held-at i (omega arith), held-at (suc i) k, e) (K .words .ordered ℓ h (lineStart ws ℓ + i) (below i (omega arith)) (omega arith) (omega arith))
+        rw (held-at i (omega arith), held-at (suc i) k, e)
+        (K .words .ordered ℓ h (lineStart ws ℓ + i) (below i (omega arith)) (omega arith) (omega arith))
 
     held-apart : Apart (gapOf left) 0 w held
     held-apart = apart-from held (gapOf left) 0 w (λ l. omega arith) held-within held-next
@@ -144,7 +149,14 @@ module _ (s : Session) (ws : List ℕ) (K : Sound s ws) where
 
   starts-are : (ℓ : ℕ) → ℓ ≤ s .fed → lineStart ws ℓ ≡ S ℓ
   starts-are zero h = K .words .first ∙ sym (start-zero dims bytes cells)
-  starts-are (suc ℓ) h = omega (arith, starts-are ℓ (omega arith), K .words .rising ℓ h, start-suc dims bytes cells ℓ, ap length (line-runs ℓ h), held-length ℓ h)
+  starts-are (suc ℓ) h = omega (
+    arith,
+    starts-are ℓ (omega arith),
+    K .words .rising ℓ h,
+    start-suc dims bytes cells ℓ,
+    ap length (line-runs ℓ h),
+    held-length ℓ h,
+  )
 
   runs-are : s .figures .runs ≡ S (s .fed)
   runs-are = sym (K .words .last) ∙ starts-are (s .fed) (le-refl (s .fed))

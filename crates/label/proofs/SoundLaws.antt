@@ -39,7 +39,8 @@ module _ (s : Session) (ws : List ℕ) where
 
 module _ (s : Session) (ws : List ℕ) (S : Sound s ws) where
   pub starts-rise : (a b : ℕ) → a ≤ b → b ≤ s .fed → lineStart ws a ≤ lineStart ws b
-  starts-rise a b l = le-ind (λ m. m ≤ s .fed → lineStart ws a ≤ lineStart ws m) (λ k. le-refl (lineStart ws a)) (λ m i below k. le-trans (below (omega arith)) (S .words .rising m k)) b l
+  starts-rise a b l = le-ind (λ m. m ≤ s .fed → lineStart ws a ≤ lineStart ws m) (λ k. le-refl (lineStart ws a))
+      (λ m i below k. le-trans (below (omega arith)) (S .words .rising m k)) b l
 
   -- n: as many as runs less joins, and as the groups that the parents hold
   pub n-roots : rootCount s ws ≡ s .figures .runs - s .figures .joins

@@ -51,7 +51,8 @@ module _ (s : Session) (ws : List ℕ) (cells : List Bool) (H : Stores s ws cell
 
     pub stores-below : of p < s .figures .runs
     stores-below =
-        let k : of p < runsBefore dims bytes cells (s .fed) = lt-of-lt-of-le (in-run .high) (start-le dims bytes cells (suc (p / w)) (s .fed) fed-line) in
+        let k : of p < runsBefore dims bytes cells (s .fed) = lt-of-lt-of-le (in-run .high)
+        (start-le dims bytes cells (suc (p / w)) (s .fed) fed-line) in
         subst (λ (n : ℕ). of p < n) (sym (H .runs-are)) k
 
     pub own-holds : holdsCell s ws p (of p) ≡ true
@@ -77,9 +78,11 @@ module _ (s : Session) (ws : List ℕ) (cells : List Bool) (H : Stores s ws cell
   pub stores-held : (p : ℕ) → p < s .fed * w → any (holdsCell s ws p) (s .figures .runs) ≡ nonzero cells p
   stores-held p h = go (nonzero cells p) refl (any (holdsCell s ws p) (s .figures .runs)) refl
     where
-      go : (b : Bool) → nonzero cells p ≡ b → (t : Bool) → any (holdsCell s ws p) (s .figures .runs) ≡ t → any (holdsCell s ws p) (s .figures .runs) ≡ nonzero cells p
+      go : (b : Bool) → nonzero cells p ≡ b → (t : Bool) → any (holdsCell s ws p) (s .figures .runs) ≡ t
+          → any (holdsCell s ws p) (s .figures .runs) ≡ nonzero cells p
       go true a t e = any-at (holdsCell s ws p) (s .figures .runs) (of p) (stores-below p a) (own-holds p a) ∙ sym a
-      go false a true e = let f = any-found (holdsCell s ws p) (s .figures .runs) e in absurd (true≢false (sym (holder-is p (f .0) h (f .1) (f .2) .0) ∙ a))
+      go false a true e =
+          let f = any-found (holdsCell s ws p) (s .figures .runs) e in absurd (true≢false (sym (holder-is p (f .0) h (f .1) (f .2) .0) ∙ a))
       go false a false e = e ∙ sym a
 
   pub stores-cells : cellsOf s ws ≡ cells

@@ -57,10 +57,12 @@ module _ (s : Session) (ws : List ℕ) (cells : List Bool) (H : Stores s ws cell
     starts-room : lineStart ws (suc ℓ) ≤ lineStart ws ℓ + perLine dims bytes
     starts-room = omega (arith, here, there, start-suc dims bytes cells ℓ, runs-few dims bytes cells ℓ)
 
-    next-starts : (r : ℕ) → lineStart ws ℓ ≤ r → suc r < lineStart ws (suc ℓ) → runEnd (linesOf s) ws r + gapOf left ≤ runStart (linesOf s) ws (suc r)
+    next-starts : (r : ℕ) → lineStart ws ℓ ≤ r → suc r < lineStart ws (suc ℓ)
+        → runEnd (linesOf s) ws r + gapOf left ≤ runStart (linesOf s) ws (suc r)
     next-starts r low high =
         let high′ : suc r < S (suc ℓ) = rw there at high in
-        let last : S (suc ℓ) ≤ s .figures .runs = subst (λ (n : ℕ). S (suc ℓ) ≤ n) (sym (H .runs-are)) (start-le dims bytes cells (suc ℓ) (s .fed) h) in
+        let last : S (suc ℓ) ≤ s .figures .runs = subst (λ (n : ℕ). S (suc ℓ) ≤ n) (sym (H .runs-are))
+        (start-le dims bytes cells (suc ℓ) (s .fed) h) in
         let e : runEnd (linesOf s) ws r ≡ run r .end = ap (λ (u : Run). u .end) (H .listed r (omega arith)) in
         let b : runStart (linesOf s) ws (suc r) ≡ run (suc r) .start = ap (λ (u : Run). u .start) (H .listed (suc r) (omega arith)) in
         omega (arith, run-order dims bytes cells ℓ r (suc r) in-frame (rw here at low) (le-refl (suc r)) high′)
@@ -71,7 +73,8 @@ module _ (s : Session) (ws : List ℕ) (cells : List Bool) (H : Stores s ws cell
     place = located dims bytes cells (s .fed) r (subst (λ (n : ℕ). r < n) (H .runs-are) h)
 
     run-inside : Within (width dims) (storedRun (linesOf s) ws r)
-    run-inside = subst (Within (width dims)) (sym (H .listed r h)) (run-within dims bytes cells (place .line-of) r (in-frame (place .line-of) (place .is-line)) (place .low) (place .high))
+    run-inside = subst (Within (width dims)) (sym (H .listed r h))
+        (run-within dims bytes cells (place .line-of) r (in-frame (place .line-of) (place .is-line)) (place .low) (place .high))
 
     run-short : left ≡ false → Short (storedRun (linesOf s) ws r)
     unfolding frameRuns
@@ -80,7 +83,8 @@ module _ (s : Session) (ws : List ℕ) (cells : List Bool) (H : Stores s ws cell
         let i : ℕ = r - S ℓ in
         let k : i < length (frameRuns dims bytes cells ℓ) = omega (arith, place .low, place .high, start-suc dims bytes cells ℓ) in
         let n : r ≡ S ℓ + i = omega (arith, place .low) in
-        let q : storedRun (linesOf s) ws r ≡ getD (frameRuns dims bytes cells ℓ) i none = H .listed r h ∙ ap run n ∙ run-at dims bytes cells ℓ i (in-frame ℓ (place .is-line)) k in
+        let q : storedRun (linesOf s) ws r ≡ getD (frameRuns dims bytes cells ℓ) i none = H .listed r h ∙ ap run n
+        ∙ run-at dims bytes cells ℓ i (in-frame ℓ (place .is-line)) k in
         let o : Short (getD (lineRuns left (lineOf (width dims) cells ℓ)) i none) = rw e (line-short (lineOf (width dims) cells ℓ) i) in
         subst Short (sym q) o
 
@@ -95,7 +99,9 @@ module _ (s : Session) (ws : List ℕ) (cells : List Bool) (H : Stores s ws cell
       before : (r : ℕ) → r < lineStart ws (suc ℓ) → r < s .figures .runs
       before r high = omega (arith, there ℓ h, H .runs-are, start-le dims bytes cells (suc ℓ) (s .fed) h)
 
-  module _ (ranked : badRank dims ≡ false) (dimensions : hasZero (leading dims) ≡ false) (limits : tooLarge dims ≡ false) (memory : wordsNeeded dims bytes ≤ length ws) (parents : (r : ℕ) → r < s .figures .runs → parentOf (linesOf s) ws r ≤ r) (join-count : s .figures .joins ≡ nonRoots (parentOf (linesOf s) ws) (s .figures .runs)) where
+  module _ (ranked : badRank dims ≡ false) (dimensions : hasZero (leading dims) ≡ false) (limits : tooLarge dims ≡ false)
+      (memory : wordsNeeded dims bytes ≤ length ws) (parents : (r : ℕ) → r < s .figures .runs → parentOf (linesOf s) ws r ≤ r)
+      (join-count : s .figures .joins ≡ nonRoots (parentOf (linesOf s) ws) (s .figures .runs)) where
     pub stores-sound : Sound s ws
     stores-sound = record {
       shape = record { ranked = ranked; dimensions = dimensions; limits = limits; memory = memory; within = H .fits .below };

@@ -11,7 +11,8 @@ use Rattle.frame.specs.Shape.{width, lines}
 use Rattle.frame.specs.ChainRule.{labels}
 use Rattle.frame.specs.Runs.{runs}
 use Rattle.frame.specs.Kinds.{Cells, flags, Number, Value, write}
-use Rattle.frame.specs.Plain.{feed, read, Answer, fed, counted, nothing, numbers, Answered, written, unless, kept, State, opened, feeds, groupsOf, figures, cause, answer, answered, next, plain}
+use Rattle.frame.specs.Plain.{feed, read, Answer, fed, counted, nothing, numbers, Answered, written, unless, kept, State, opened, feeds}
+use Rattle.frame.specs.Plain.{groupsOf, figures, cause, answer, answered, next, plain}
 use Rattle.frame.specs.Lists.{sum}
 use Rattle.frame.proofs.ShapeLaws.{size-lines}
 use Rattle.frame.proofs.CauseLaws.{accepted-feed}
@@ -27,7 +28,8 @@ use Rattle.label.proofs.FrameLaws.{frame-facts, cause-read, frame-block
 use Rattle.label.proofs.OnlyLaws.{Alike, frame-only}
 
 -- an opening's record and words, fed in the blocks ks, and read
-pub record InBlocks (kind : Number) (shape structure ws : List ℕ) (cells : List Bool) (out : List (Value kind)) (ks : List ℕ) (a : Answer) (ws′ : List ℕ) (out′ : List (Value kind)) : Type 0 where
+pub record InBlocks (kind : Number) (shape structure ws : List ℕ) (cells : List Bool) (out : List (Value kind)) (ks : List ℕ) (a : Answer)
+    (ws′ : List ℕ) (out′ : List (Value kind)) : Type 0 where
   pub fed-session : Session
   pub fed-words : List ℕ
   pub fills : Fills (width shape) (openRecord shape structure) (openWords ws) ks cells fed-session fed-words
@@ -37,30 +39,48 @@ pub record InBlocks (kind : Number) (shape structure ws : List ℕ) (cells : Lis
 module _ (kind : Number) (shape structure ws : List ℕ) (out : List (Value kind)) where
   -- any blocks that add up to L
   pub blocks-whole : (cells : List Bool) → earlyCauseOf shape structure ws cells (length out) ≡ 0 → (ks : List ℕ) → sum ks ≡ lines shape
-      → (a : Answer) (ws′ : List ℕ) (out′ : List (Value kind)) → InBlocks kind shape structure ws cells out ks a ws′ out′ → FramePromise kind shape structure ws cells out a ws′ out′
-  blocks-whole cells no-cause ks e a ws′ out′ B = frame-blocks kind shape structure ws cells out no-cause ks (B .fed-session) (B .fed-words) e (B .fills) a (B .read-session) ws′ out′ (B .reads)
+      → (a : Answer) (ws′ : List ℕ) (out′ : List (Value kind)) → InBlocks kind shape structure ws cells out ks a ws′ out′ → FramePromise
+      kind shape structure ws cells out a ws′ out′
+  blocks-whole cells no-cause ks e a ws′ out′ B = frame-blocks kind shape structure ws cells out no-cause ks (B .fed-session)
+      (B .fed-words) e (B .fills) a (B .read-session) ws′ out′ (B .reads)
 
   -- those of every block count B among them
-  pub every-count : (cells : List Bool) → earlyCauseOf shape structure ws cells (length out) ≡ 0 → (B : ℕ) (a : Answer) (ws′ : List ℕ) (out′ : List (Value kind))
-      → InBlocks kind shape structure ws cells out (blocks (lines shape) B) a ws′ out′ → FramePromise kind shape structure ws cells out a ws′ out′
+  pub every-count : (cells : List Bool) → earlyCauseOf shape structure ws cells (length out) ≡ 0
+      → (B : ℕ) (a : Answer) (ws′ : List ℕ) (out′ : List (Value kind))
+      → InBlocks kind shape structure ws cells out (blocks (lines shape) B) a ws′ out′ → FramePromise kind shape structure ws cells out a
+      ws′ out′
   every-count cells no-cause B = blocks-whole cells no-cause (blocks (lines shape) B) (sum-blocks (lines shape) B)
 
   -- any such blocks can be fed and read
   pub blocks-met : (cells : List Bool) → earlyCauseOf shape structure ws cells (length out) ≡ 0 → (ks : List ℕ) → sum ks ≡ lines shape
       → (a : Answer) × (ws′ : List ℕ) × (out′ : List (Value kind)) × InBlocks kind shape structure ws cells out ks a ws′ out′
   blocks-met cells no-cause ks e =
-      let long : length cells ≡ sum ks * width shape = frame-facts kind shape structure ws cells out no-cause .1 ∙ size-lines shape ∙ ap (λ (n : ℕ). n * width shape) (sym e) in
+      let long : length cells ≡ sum ks * width shape = frame-facts kind shape structure ws cells out no-cause .1 ∙ size-lines shape
+      ∙ ap (λ (n : ℕ). n * width shape) (sym e) in
       let F = fills-met (width shape) (openRecord shape structure) (openWords ws) ks cells long in
-      let d = doRead kind (F .0) (F .1) out in
-      (d .said, d .words, d .out, record { fed-session = F .0; fed-words = F .1; fills = F .2; read-session = F .0; reads = read-met kind (F .0) (F .1) out })
+      let d = doRead kind (F .0) (F .1) out in (
+        d .said,
+        d .words,
+        d .out,
+        record {
+          fed-session = F .0;
+          fed-words = F .1;
+          fills = F .2;
+          read-session = F .0;
+          reads = read-met kind
+              (F .0) (F .1) out;
+        },
+      )
 
   -- two lists of blocks lead to the same
   pub blocks-same : (cells : List Bool) → earlyCauseOf shape structure ws cells (length out) ≡ 0 → (ks js : List ℕ) → sum ks ≡ lines shape
       → sum js ≡ lines shape
-      → (a b : Answer) (ws′ vs′ : List ℕ) (out′ out″ : List (Value kind)) → InBlocks kind shape structure ws cells out ks a ws′ out′ → InBlocks kind shape structure ws cells out js b vs′ out″
+      → (a b : Answer) (ws′ vs′ : List ℕ) (out′ out″ : List (Value kind)) → InBlocks kind shape structure ws cells out ks a ws′ out′
+      → InBlocks kind shape structure ws cells out js b vs′ out″
       → (a ≡ b) × (out′ ≡ out″) × Alike (lines shape) (runs shape structure cells) ws′ vs′
   blocks-same cells no-cause ks js e f a b ws′ vs′ out′ out″ B C =
-      frame-only kind shape structure ws cells out a b ws′ vs′ out′ out″ (blocks-whole cells no-cause ks e a ws′ out′ B) (blocks-whole cells no-cause js f b vs′ out″ C)
+      frame-only kind shape structure ws cells out a b ws′ vs′ out′ out″ (blocks-whole cells no-cause ks e a ws′ out′ B)
+      (blocks-whole cells no-cause js f b vs′ out″ C)
 
   -- and what a whole frame answers and writes is the plain session's reading after a feed of whole lines
   module _ (cells : Cells) (no-cause : earlyCauseOf shape structure ws (flags cells) (length out) ≡ 0) where
@@ -69,21 +89,26 @@ module _ (kind : Number) (shape structure ws : List ℕ) (out : List (Value kind
 
     feed-is-accepted : cause shape (opened structure) (feed (lines shape) cells) ≡ 0
     unfolding cause
-    feed-is-accepted = accepted-feed (lines shape - 0) (lines shape) (width shape) (length (flags cells)) (omega arith) (frame-facts kind shape structure ws (flags cells) out no-cause .1 ∙ size-lines shape)
+    feed-is-accepted = accepted-feed (lines shape - 0) (lines shape) (width shape) (length (flags cells)) (omega arith)
+        (frame-facts kind shape structure ws (flags cells) out no-cause .1 ∙ size-lines shape)
 
     feed-next : next shape (opened structure) (feed (lines shape) cells) ≡ whole
     feed-next = next-feeds shape (opened structure) (lines shape) cells feed-is-accepted
 
-    feed-said : unless (cause shape (opened structure) (feed (lines shape) cells)) (answer shape (opened structure) (feed (lines shape) cells)) ≡ fed (lines shape) (figures shape whole)
+    feed-said : unless (cause shape (opened structure) (feed (lines shape) cells))
+        (answer shape (opened structure) (feed (lines shape) cells)) ≡ fed (lines shape) (figures shape whole)
     feed-said =
-        unless-none (cause shape (opened structure) (feed (lines shape) cells)) (answer shape (opened structure) (feed (lines shape) cells)) feed-is-accepted
+        unless-none (cause shape (opened structure) (feed (lines shape) cells)) (answer shape (opened structure) (feed (lines shape) cells))
+        feed-is-accepted
         ∙ (unfold answer in ap (λ (n : ℕ). fed n (figures shape whole)) (zero-add (lines shape)))
 
-    first : answered shape (opened structure) (feed (lines shape) cells) ≡ record { said = fed (lines shape) (figures shape whole); written = nothing }
+    first : answered shape (opened structure) (feed (lines shape) cells)
+        ≡ record { said = fed (lines shape) (figures shape whole); written = nothing }
     unfolding written
     first = ap (λ (x : Answer). record { said = x; written = nothing }) feed-said
 
-    second : (a : Answer) (ws′ : List ℕ) (out′ : List (Value kind)) → FramePromise kind shape structure ws (flags cells) out a ws′ out′ → answered shape whole (read kind out) ≡ record { said = a; written = numbers kind out′ }
+    second : (a : Answer) (ws′ : List ℕ) (out′ : List (Value kind)) → FramePromise kind shape structure ws (flags cells) out a ws′ out′
+        → answered shape whole (read kind out) ≡ record { said = a; written = numbers kind out′ }
     unfolding answer written feeds
     second a ws′ out′ F =
         let c = sym (cause-read kind shape structure ws (flags cells) out no-cause) in
@@ -91,8 +116,12 @@ module _ (kind : Number) (shape structure ws : List ℕ) (out : List (Value kind
         (ap (λ (d : ℕ). unless d (counted (groupsOf shape whole) (figures shape whole))) c ∙ sym (F .said))
         (ap (λ (d : ℕ). kept d out (map (write kind) (labels shape structure (flags cells)))) c ∙ sym (F .output))
 
-    pub frame-plain : (a : Answer) (ws′ : List ℕ) (out′ : List (Value kind)) → FramePromise kind shape structure ws (flags cells) out a ws′ out′
-        → plain shape (opened structure) (feed (lines shape) cells ∷ read kind out ∷ []) ≡ record { said = fed (lines shape) (figures shape whole); written = nothing } ∷ record { said = a; written = numbers kind out′ } ∷ []
+    pub frame-plain : (a : Answer) (ws′ : List ℕ) (out′ : List (Value kind))
+        → FramePromise kind shape structure ws (flags cells) out a ws′ out′
+        → plain shape (opened structure) (feed (lines shape) cells ∷ read kind out ∷ [])
+        ≡ record { said = fed (lines shape) (figures shape whole); written = nothing } ∷ record { said = a; written = numbers kind out′ }
+        ∷ []
     unfolding plain
     frame-plain a ws′ out′ F =
-        ap₂ (λ (x : Answered) (y : Answered). x ∷ y ∷ []) first (ap (λ (p : State). answered shape p (read kind out)) feed-next ∙ second a ws′ out′ F)
+        ap₂ (λ (x : Answered) (y : Answered). x ∷ y ∷ []) first
+        (ap (λ (p : State). answered shape p (read kind out)) feed-next ∙ second a ws′ out′ F)

@@ -13,7 +13,8 @@ use Rattle.frame.specs.Runs.{goesOn, beginsRun, runs, stretches, singles, lineR
 use Rattle.frame.specs.Touches.{reaches, used, hasNbr, nbrLine, touchesBy, touchesOf, touches}
 use Rattle.frame.specs.Kinds.{largest, holds}
 use Rattle.frame.specs.Memory.{perLine, wordsNeeded}
-use Rattle.frame.specs.Causes.{badRank, hasZero, tooLarge, firstCause, openTests, openCause, feedTests, feedCause, readTests, readCause, sizesTests, sizesCause, frameTests, frameCause}
+use Rattle.frame.specs.Causes.{badRank, hasZero, tooLarge, firstCause, openTests, openCause, feedTests, feedCause, readTests, readCause}
+use Rattle.frame.specs.Causes.{sizesTests, sizesCause, frameTests, frameCause}
 use Rattle.frame.specs.declared.Figures.{Figures}
 use Rattle.frame.specs.Plain.{unless, kept, feeds, groupsOf, figures}
 use Rattle.frame.specs.Lists.{all, every, lastBelow, entries, padded, setAll}
@@ -27,11 +28,19 @@ use Rattle.label.specs.Held.{holdsCell, cellsOf, holderOf, rootCount, nu
 use Rattle.label.specs.Feeding.{runsAfter, startAfter, runAfter, feedTouches, feedEdges, feedRecord, withLines, withRuns, feedCauseOf}
 use Rattle.label.specs.Reading.{withNames, readCauseOf, sizesCauseOf}
 use Rattle.label.specs.WholeFrame.{earlyCauseOf, frameCauseOf}
-use Rattle.label.proofs.CallFunctions.{OpenResult, FeedResult, doOpen, withParents, feedWords, doFeed, doRead, doSizes, frameFeed, doFrame}
+use Rattle.label.proofs.CallFunctions.{OpenResult, FeedResult, doOpen, withParents, feedWords, doFeed, doRead, doSizes, frameFeed}
+use Rattle.label.proofs.CallFunctions.{doFrame}
 
 -- what a computation opens
 unfoldable pub computed : Unit {0}
-unfolding merge rep isRoot count groups joins gather pairs visit number size width leading coords offset backward on leftOn nonzero sameList any leadsBy step edges groupCount label range labels goesOn beginsRun runs stretches singles lineRuns gapOf lineOf frameRuns allRuns runsBefore frameRun reaches used hasNbr nbrLine touchesBy touchesOf touches largest holds perLine wordsNeeded badRank hasZero tooLarge firstCause openTests openCause feedTests feedCause readTests readCause sizesTests sizesCause frameTests frameCause unless kept feeds groupsOf figures entries shapeOf structureOf setAll up rootOf own roots nonRoots numberIn grouping all every shapeSound wordsSound sound lastBelow holdsCell cellsOf holderOf rootCount numberAt sizeAt padded runsAfter startAfter runAfter feedTouches feedEdges feedRecord withLines withRuns feedCauseOf withNames readCauseOf sizesCauseOf earlyCauseOf frameCauseOf doOpen withParents feedWords doFeed doRead doSizes frameFeed doFrame zipWith
+unfolding merge rep isRoot count groups joins gather pairs visit number size width leading coords offset backward on leftOn nonzero
+    sameList any leadsBy step edges groupCount label range labels goesOn beginsRun runs stretches singles lineRuns gapOf lineOf frameRuns
+    allRuns runsBefore frameRun reaches used hasNbr nbrLine touchesBy touchesOf touches largest holds perLine wordsNeeded badRank hasZero
+    tooLarge firstCause openTests openCause feedTests feedCause readTests readCause sizesTests sizesCause frameTests frameCause unless
+    kept feeds groupsOf figures entries shapeOf structureOf setAll up rootOf own roots nonRoots numberIn grouping all every shapeSound
+    wordsSound sound lastBelow holdsCell cellsOf holderOf rootCount numberAt sizeAt padded runsAfter startAfter runAfter feedTouches
+    feedEdges feedRecord withLines withRuns feedCauseOf withNames readCauseOf sizesCauseOf earlyCauseOf frameCauseOf doOpen withParents
+    feedWords doFeed doRead doSizes frameFeed doFrame zipWith
 computed = tt
 
 -- ---- document 01's frame 1, fed line by line
@@ -84,4 +93,5 @@ put i v = set (two .words) i v
 
 -- records of the frame, with other figures
 abbrev pub held : ℕ → ℕ → ℕ → Session
-held l r j = record { rank = 2; shape = 3 ∷ 3 ∷ 0 ∷ 0 ∷ []; structure = cross ++ replicate 72 0; fed = l; figures = record { runs = r; joins = j } }
+held l r j =
+    record { rank = 2; shape = 3 ∷ 3 ∷ 0 ∷ 0 ∷ []; structure = cross ++ replicate 72 0; fed = l; figures = record { runs = r; joins = j } }

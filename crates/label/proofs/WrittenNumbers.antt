@@ -3,38 +3,44 @@
 use mathlib.Core.Path.{_≡_, refl, sym, ap, _∙_}
 use mathlib.Core.Bool.{Bool, true, false, cond, true≢false}
 use mathlib.Core.List.{List}
-use Prim.Native.Nat.{ℕ, suc, _+_, _*_, _/_, _%_, _≤_, _<_}
+use Prim.Native.Nat.{ℕ, suc, _+_, _-_, _*_, _/_, _%_, _≤_, _<_}
 use native.Mathlib.Nat.{le-refl, mod-lt, mul-assoc, mul-le-mul-right, div-add-mod', div-lt-iff-lt-mul}
 use native.Mathlib.Omega.{arith}
+use lib.Dec.{ltb}
 use lib.ListN.{length}
 use lib.Seq.{ext-getD}
 use Rattle.frame.specs.Shape.{size, width}
 use Rattle.frame.specs.ChainRule.{nonzero}
 use Rattle.frame.specs.Kinds.{Number, largest, Value, write}
 use Rattle.frame.specs.Memory.{stride, perLine, wordsNeeded}
+use Rattle.frame.specs.Plain.{Answer, counted, unless}
 use Rattle.frame.specs.Words.{lineStart, parentOf}
 use Rattle.frame.proofs.ShapeLaws.{factor-pos, size-lines}
 use Rattle.frame.proofs.ChainRuleLaws.{any-at}
 use Rattle.frame.proofs.FrameRunLaws.{starts-few, line-below}
 use Rattle.frame.proofs.ListLaws.{listed-at, listed-length}
+use Rattle.frame.proofs.PlainLaws.{unless-none}
 use Rattle.forest.specs.Forest.{numberIn}
-use Rattle.geo.specs.declared.Geo.{Geo}
-use Rattle.geo.specs.Geometry.{GeoOf}
+use Rattle.causes.specs.declared.Checked.{Checked}
+use Rattle.causes.specs.Cases.{checkNumber}
+use Rattle.causes.proofs.CaseLaws.{passed-none}
 use Rattle.names.specs.Names.{NamesReady, named}
 use Rattle.write.specs.Writes.{LinesHeld, WriteReady, outputAt, AtCell, LinesWritten}
 use Rattle.label.specs.declared.Session.{Session}
 use Rattle.label.specs.Record.{shapeOf, structureOf, linesOf}
 use Rattle.label.specs.Sound.{Sound}
 use Rattle.label.specs.Held.{holdsCell, cellsOf, holderOf, rootCount, numberAt, numbersHeld}
-use Rattle.label.specs.Reading.{withNames}
-use Rattle.label.specs.Steps.{ReadAccepted}
+use Rattle.label.specs.Reading.{withNames, readCauseOf, ReadPromise}
+use Rattle.label.specs.Steps.{RecordFound, ReadAccepted}
 use Rattle.label.proofs.SoundLaws.{starts-rise}
 use Rattle.label.proofs.RecordGeometry.{geo-lines, geo-width}
+use Rattle.label.proofs.CheckLaws.{passed-cause, passed-geometry}
+use Rattle.label.proofs.AcceptedLaws.{cause-read, read-promise}
 use Rattle.label.proofs.HoldLaws.{holds-parts, parts-hold, nonzero-held}
 use Rattle.label.proofs.StoreLaws.{Stores, own-holds, stores-holder}
 use Rattle.label.proofs.StoredSound.{stores-ordered}
 use Rattle.label.proofs.SoundCells.{sound-stores}
-use Rattle.label.proofs.FitLaws.{runs-fit}
+use Rattle.label.proofs.FitLaws.{runs-fit, joins-fit}
 
 module _ (s : Session) (ws : List ℕ) (S : Sound s ws) where
   -- L, w, and the cells and parents held
@@ -59,7 +65,14 @@ module _ (s : Session) (ws : List ℕ) (S : Sound s ws) where
   pub names-ready : NamesReady (linesOf s) (s .figures .runs) ws
   unfolding wordsNeeded
   names-ready = record {
-    room = omega (arith, S .shape .memory, H .runs-are, starts-few (shapeOf s) (structureOf s) cells (s .fed), mul-le-mul-right h (S .shape .within), mul-assoc stride L h);
+    room = omega (
+      arith,
+      S .shape .memory,
+      H .runs-are,
+      starts-few (shapeOf s) (structureOf s) cells (s .fed),
+      mul-le-mul-right h (S .shape .within),
+      mul-assoc stride L h,
+    );
     parents = S .words .parents;
     small = omega (arith, runs-fit s ws S);
   }
@@ -79,7 +92,8 @@ module _ (s : Session) (ws : List ℕ) (S : Sound s ws) where
     inside = λ r h. S .words .inside r (rw (S .words .last) at h);
   }
 
-  pub write-ready : (kind : Number) (out : ℕ) → rootCount s ws ≤ largest kind → out ≡ size (shapeOf s) → WriteReady kind (linesOf s) (width (shapeOf s)) (s .fed) ws out
+  pub write-ready : (kind : Number) (out : ℕ) → rootCount s ws ≤ largest kind → out ≡ size (shapeOf s)
+      → WriteReady kind (linesOf s) (width (shapeOf s)) (s .fed) ws out
   unfolding rootCount
   write-ready kind out fits e = record {
     lines = lines-held;
@@ -108,29 +122,38 @@ module _ (s : Session) (ws : List ℕ) (S : Sound s ws) where
     held-at : nonzero cells p ≡ true → AtCell L (s .fed) ws ℓ x (holderOf s ws p)
     held-at a =
         let k = holds-parts s ws p (holderOf s ws p) (rw (stores-holder s ws cells H p a) (own-holds s ws cells H p a)) in
-        record { is-fed = line-below (shapeOf s) (structureOf s) cells (s .fed) (H .fits) p a; low = k .low; high = k .high; covers = k .covers }
+        let is-fed = line-below (shapeOf s) (structureOf s) cells (s .fed) (H .fits) p a in
+        record { is-fed = is-fed; low = k .low; high = k .high; covers = k .covers }
 
     -- and a cell that a run covers is nonzero
     at-held : (r : ℕ) → AtCell L (s .fed) ws ℓ x r → nonzero cells p ≡ true
     at-held r c =
         let held = parts-hold s ws p r (record { low = c .low; high = c .high; covers = c .covers }) in
-        nonzero-held s ws p (div-lt-iff-lt-mul width-pos .0 (c .is-fed)) ∙ any-at (holdsCell s ws p) (s .figures .runs) r (line-run ℓ r (c .is-fed) (c .high)) held
+        nonzero-held s ws p (div-lt-iff-lt-mul width-pos .0 (c .is-fed))
+        ∙ any-at (holdsCell s ws p) (s .figures .runs) r (line-run ℓ r (c .is-fed) (c .high)) held
 
-    number-written : (kind : Number) (ws′ : List ℕ) (out out′ : List (Value kind)) → LinesWritten kind L w (s .fed) ws ws′ out out′ → outputAt kind out′ p ≡ write kind (numberAt s ws p)
+    number-written : (kind : Number) (ws′ : List ℕ) (out out′ : List (Value kind)) → LinesWritten kind L w (s .fed) ws ws′ out out′
+        → outputAt kind out′ p ≡ write kind (numberAt s ws p)
     unfolding numberAt
     number-written kind ws′ out out′ W = ap (outputAt kind out′) (sym (div-add-mod' p w)) ∙ go (nonzero cells p) refl
       where
-        go : (b : Bool) → nonzero cells p ≡ b → outputAt kind out′ (ℓ * w + x) ≡ write kind (cond (nonzero cells p) (numberIn parent (holderOf s ws p)) 0)
+        go : (b : Bool) → nonzero cells p ≡ b
+            → outputAt kind out′ (ℓ * w + x) ≡ write kind (cond (nonzero cells p) (numberIn parent (holderOf s ws p)) 0)
         go true a = rw a (W .covered ℓ x (holderOf s ws p) (held-at a))
-        go false a = rw a (W .zeros ℓ x (div-lt-iff-lt-mul width-pos .1 in-frame) (mod-lt p width-pos) (λ r c. true≢false (sym (at-held r c) ∙ a)))
+        go false a =
+            let l = div-lt-iff-lt-mul width-pos .1 in-frame in
+            rw a (W .zeros ℓ x l (mod-lt p width-pos) (λ r c. true≢false (sym (at-held r c) ∙ a)))
 
-  pub written-numbers : (kind : Number) (ws′ : List ℕ) (out out′ : List (Value kind)) → length out ≡ size (shapeOf s) → LinesWritten kind (linesOf s) (width (shapeOf s)) (s .fed) ws ws′ out out′
+  pub written-numbers : (kind : Number) (ws′ : List ℕ) (out out′ : List (Value kind)) → length out ≡ size (shapeOf s)
+      → LinesWritten kind (linesOf s) (width (shapeOf s)) (s .fed) ws ws′ out out′
       → (ws′ ≡ withNames s ws) × (out′ ≡ numbersHeld s ws kind)
   unfolding withNames
   written-numbers kind ws′ out out′ e W = (
     W .names ∙ ap (λ (n : ℕ). named L n ws) (S .words .last),
     ext-getD (write kind 0) out′ (numbersHeld s ws kind) (long ∙ sym (listed-length number (size (shapeOf s))))
-        (λ p h. let l : p < size (shapeOf s) = rw long at h in number-written p l kind ws′ out out′ W ∙ sym (listed-at number (size (shapeOf s)) p (write kind 0) l)),
+        (λ p h.
+        let l : p < size (shapeOf s) = rw long at h in
+        number-written p l kind ws′ out out′ W ∙ sym (listed-at number (size (shapeOf s)) p (write kind 0) l)),
   )
     where
       -- cell p's number, as it is written
@@ -140,10 +163,39 @@ module _ (s : Session) (ws : List ℕ) (S : Sound s ws) where
       long : length out′ ≡ size (shapeOf s)
       long = W .long ∙ e
 
--- the same, in the names of the record's geometry
-module _ (kind : Number) (s : Session) (ws : List ℕ) (out : ℕ) (R : ReadAccepted kind s ws out) (g : Geo) (K : GeoOf (s .rank) (s .shape) (s .structure) g) where
-  pub read-ready : WriteReady kind (g .lines) (g .width) (s .fed) ws out
-  read-ready = rw (geo-lines s ws g K, geo-width s ws g K) (write-ready s ws (R .is-sound) kind out (R .fits) (R .places))
+-- ---- where the check of a reading passed
 
-  pub read-done : (ws′ : List ℕ) (to to′ : List (Value kind)) → length to ≡ out → LinesWritten kind (g .lines) (g .width) (s .fed) ws ws′ to to′ → (ws′ ≡ withNames s ws) × (to′ ≡ numbersHeld s ws kind)
-  read-done ws′ to to′ long W = written-numbers s ws (R .is-sound) kind ws′ to to′ (long ∙ R .places) (rw (← geo-lines s ws g K, ← geo-width s ws g K) W)
+module _ (kind : Number) (s : Session) (ws : List ℕ) (places : ℕ) {r : Checked} (F : RecordFound s (readCauseOf kind s ws places) r) where
+  -- where it did, n is a difference
+  pub read-joins : checkNumber (r .check) ≡ 0 → s .figures .joins ≤ s .figures .runs
+  read-joins none = joins-fit s ws (cause-read kind s ws places (sym (F .number) ∙ none) .is-sound)
+
+  -- t is whether it failed
+  module _ {t : Bool} (is : t ≡ ltb 0 (checkNumber (r .check))) (left : t ≡ false) where
+    R : ReadAccepted kind s ws places
+    R = cause-read kind s ws places (passed-cause s F is left)
+
+    lines-are : r .geo .lines ≡ linesOf s
+    lines-are = geo-lines s ws (r .geo) (passed-geometry s F is left)
+
+    width-is : r .geo .width ≡ width (shapeOf s)
+    width-is = geo-width s ws (r .geo) (passed-geometry s F is left)
+
+    pub passed-ready : WriteReady kind (r .geo .lines) (r .geo .width) (s .fed) ws places
+    passed-ready = rw (lines-are, width-is) (write-ready s ws (R .is-sound) kind places (R .fits) (R .places))
+
+    written : {ws′ : List ℕ} {out out′ : List (Value kind)} → LinesWritten kind (r .geo .lines) (r .geo .width) (s .fed) ws ws′ out out′
+        → LinesWritten kind (linesOf s) (width (shapeOf s)) (s .fed) ws ws′ out out′
+    written W = rw (← lines-are, ← width-is) W
+
+pub passed-read : {kind : Number} {s : Session} {ws : List ℕ} {out : List (Value kind)} {r : Checked}
+    → RecordFound s (readCauseOf kind s ws (length out)) r → {t : Bool} → t ≡ ltb 0 (checkNumber (r .check)) → t ≡ false
+    → {ws′ : List ℕ} {out′ : List (Value kind)} → LinesWritten kind (r .geo .lines) (r .geo .width) (s .fed) ws ws′ out out′
+    → {s′ : Session} {a : Answer}
+    → (s′ ≡ s) × (a ≡ unless (checkNumber (r .check)) (counted (s .figures .runs - s .figures .joins) (s .figures)))
+    → ReadPromise kind s ws out a s′ ws′ out′
+passed-read {kind} {s} {ws} {out} F is left {ws′} {out′} W A =
+    let given = R kind s ws (length out) F is left in
+    let numbers = written-numbers s ws (given .is-sound) kind ws′ out out′ (given .places) (written kind s ws (length out) F is left W) in
+    let said = A .1 ∙ unless-none _ _ (passed-none _ _ is left) in
+    read-promise kind s ws out (passed-cause s F is left) ws′ out′ numbers _ said _ (A .0)

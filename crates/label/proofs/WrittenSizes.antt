@@ -18,26 +18,32 @@ use Rattle.groups.proofs.CountLaws.{count-same, count-none, count-beyond, count
 use Rattle.groups.proofs.IntervalLaws.{count-interval}
 use Rattle.frame.specs.Shape.{size, width}
 use Rattle.frame.specs.ChainRule.{nonzero, range}
+use Rattle.frame.specs.Plain.{Answer, counted, unless}
 use Rattle.frame.specs.Words.{lineStart, runStart, runEnd, parentOf}
 use Rattle.frame.proofs.ShapeLaws.{size-lines}
 use Rattle.frame.proofs.ChainRuleLaws.{length-range}
 use Rattle.frame.proofs.ListLaws.{listed-from}
+use Rattle.frame.proofs.PlainLaws.{unless-none}
 use Rattle.frame.proofs.FrameRunLaws.{located, line-below}
 use Rattle.forest.specs.Forest.{numberIn}
-use Rattle.geo.specs.declared.Geo.{Geo}
-use Rattle.geo.specs.Geometry.{GeoOf}
+use Rattle.causes.specs.declared.Checked.{Checked}
+use Rattle.causes.specs.Cases.{checkNumber}
+use Rattle.causes.proofs.CaseLaws.{passed-none}
 use Rattle.write.specs.Writes.{runCells, SizesReady, SizesWritten}
 use Rattle.label.specs.declared.Session.{Session}
 use Rattle.label.specs.Record.{shapeOf, structureOf, linesOf}
 use Rattle.label.specs.Sound.{Sound}
 use Rattle.label.specs.Held.{cellsOf, holderOf, rootCount, numberAt, sizeAt, sizesHeld}
-use Rattle.label.specs.Reading.{withNames}
+use Rattle.label.specs.Reading.{withNames, sizesCauseOf, SizesPromise}
+use Rattle.label.specs.Steps.{RecordFound}
 use Rattle.label.proofs.SoundLaws.{starts-rise}
 use Rattle.label.proofs.RecordGeometry.{geo-lines}
+use Rattle.label.proofs.CheckLaws.{passed-cause, passed-geometry}
+use Rattle.label.proofs.AcceptedLaws.{cause-sizes, sizes-promise}
 use Rattle.label.proofs.HoldLaws.{holds-parts, parts-hold}
 use Rattle.label.proofs.StoreLaws.{Stores, own-holds, holder-is, stores-below, stores-holder}
 use Rattle.label.proofs.SoundCells.{sound-stores}
-use Rattle.label.proofs.FitLaws.{limits}
+use Rattle.label.proofs.FitLaws.{limits, joins-fit}
 use Rattle.label.proofs.WrittenNumbers.{names-ready}
 
 module _ (s : Session) (ws : List ℕ) (S : Sound s ws) where
@@ -101,7 +107,9 @@ module _ (s : Session) (ws : List ℕ) (S : Sound s ws) where
       to = ℓ * w + runEnd L ws r;
       long = omega arith;
       upto = omega (arith, S .words .nonempty r h);
-      below = rw (size-lines (shapeOf s)) (omega (arith, S .words .inside r h, suc-mul ℓ w, mul-le-mul-right w (le-trans fed (S .shape .within))));
+      below =
+          let most = mul-le-mul-right w (le-trans fed (S .shape .within)) in
+          rw (size-lines (shapeOf s)) (omega (arith, S .words .inside r h, suc-mul ℓ w, most));
       inside = inside;
       only = only;
     }
@@ -123,13 +131,15 @@ module _ (s : Session) (ws : List ℕ) (S : Sound s ws) where
               covers = rw (digits-mod ℓ l) (omega arith, omega arith);
             }) in
             let c = holder-is s ws cells H (ℓ * w + x) r (digits-lt fed l) h k in
-            subst (λ (n : ℕ). (nonzero cells n ≡ true) × (holderOf s ws n ≡ r)) q (c .0, stores-holder s ws cells H (ℓ * w + x) (c .0) ∙ c .1)
+            subst (λ (n : ℕ). (nonzero cells n ≡ true) × (holderOf s ws n ≡ r)) q
+            (c .0, stores-holder s ws cells H (ℓ * w + x) (c .0) ∙ c .1)
 
         only : (p : ℕ) → nonzero cells p ≡ true → holderOf s ws p ≡ r → (ℓ * w + runStart L ws r ≤ p) × (p < ℓ * w + runEnd L ws r)
         only p a e =
             let k = holds-parts s ws p r (rw (← e, stores-holder s ws cells H p a) (own-holds s ws cells H p a)) in
             let b : p / w < s .fed = line-below (shapeOf s) (structureOf s) cells (s .fed) (H .fits) p a in
-            let q : p / w ≡ ℓ = le-antisymm (one-line (p / w) ℓ (omega arith) (k .low) (of-line .high)) (one-line ℓ (p / w) (omega (arith, fed)) (of-line .low) (k .high)) in
+            let q : p / w ≡ ℓ = le-antisymm (one-line (p / w) ℓ (omega arith) (k .low) (of-line .high))
+            (one-line ℓ (p / w) (omega (arith, fed)) (of-line .low) (k .high)) in
             let d : ℓ * w + p % w ≡ p = subst (λ (m : ℕ). m * w + p % w ≡ p) q (div-add-mod' p w) in
             (omega (arith, k .covers .0), omega (arith, k .covers .1))
 
@@ -142,10 +152,14 @@ module _ (s : Session) (ws : List ℕ) (S : Sound s ws) where
 
     -- one run more makes no difference to a cell that it does not hold, nor where its number is another
     same-below : (n p : ℕ) → (nonzero cells p ≡ true → holderOf s ws p ≡ n → number n ≡ g → ⊥) → heldBelow (suc n) p ≡ heldBelow n p
-    same-below n p other = bool-same (heldBelow (suc n) p) (heldBelow n p) fewer (λ e. let k = parts n e in join (suc n) (k .0) (omega (arith, k .1)) (k .2))
+    same-below n p other =
+        bool-same (heldBelow (suc n) p) (heldBelow n p) fewer
+        (λ e. let k = parts n e in join (suc n) (k .0) (omega (arith, k .1)) (k .2))
       where
         parts : (m : ℕ) → heldBelow m p ≡ true → (nonzero cells p ≡ true) × (holderOf s ws p < m) × (number (holderOf s ws p) ≡ g)
-        parts m e = let k = and₃ (nonzero cells p) (ltb (holderOf s ws p) m) (eqb (number (holderOf s ws p)) g) e in (k .0, ltb-true _ _ (k .1), eqb-true _ _ (k .2))
+        parts m e =
+            let k = and₃ (nonzero cells p) (ltb (holderOf s ws p) m) (eqb (number (holderOf s ws p)) g) e in
+            (k .0, ltb-true _ _ (k .1), eqb-true _ _ (k .2))
 
         join : (m : ℕ) → nonzero cells p ≡ true → holderOf s ws p < m → number (holderOf s ws p) ≡ g → heldBelow m p ≡ true
         join m a l e = rw (a, lt-ltb (holderOf s ws p) m l, eq-eqb (number (holderOf s ws p)) g e) refl
@@ -157,7 +171,9 @@ module _ (s : Session) (ws : List ℕ) (S : Sound s ws) where
             join n (k .0) (omega (arith, k .1)) (k .2)
 
     -- run n adds its cells where its number is g
-    count-run : (n : ℕ) → n < s .figures .runs → count (heldBelow (suc n)) (size (shapeOf s)) ≡ cond (eqb (number n) g) (runEnd L ws n - runStart L ws n) 0 + count (heldBelow n) (size (shapeOf s))
+    count-run : (n : ℕ) → n < s .figures .runs
+        → count (heldBelow (suc n)) (size (shapeOf s))
+        ≡ cond (eqb (number n) g) (runEnd L ws n - runStart L ws n) 0 + count (heldBelow n) (size (shapeOf s))
     count-run n h = go (eqb (number n) g) refl
       where
         K : RunInterval n
@@ -173,13 +189,24 @@ module _ (s : Session) (ws : List ℕ) (S : Sound s ws) where
         outside p (inl l) = same-below n p (λ a e q. let k = K .only p a e in omega (arith, k .0))
         outside p (inr l) = same-below n p (λ a e q. let k = K .only p a e in omega (arith, k .1))
 
-        go : (t : Bool) → eqb (number n) g ≡ t → count (heldBelow (suc n)) (size (shapeOf s)) ≡ cond (eqb (number n) g) (runEnd L ws n - runStart L ws n) 0 + count (heldBelow n) (size (shapeOf s))
-        go true t = rw t (omega (arith, K .long, count-interval (heldBelow n) (heldBelow (suc n)) (K .from) (K .to) (K .upto) off (on (eqb-true _ _ t)) outside (size (shapeOf s)) (K .below)))
-        go false t = rw t (omega (arith, count-same (heldBelow (suc n)) (heldBelow n) (size (shapeOf s)) (λ p l. same-below n p (λ a e q. eqb-false _ _ t q))))
+        go : (t : Bool) → eqb (number n) g ≡ t
+            → count (heldBelow (suc n)) (size (shapeOf s))
+            ≡ cond (eqb (number n) g) (runEnd L ws n - runStart L ws n) 0 + count (heldBelow n) (size (shapeOf s))
+        go true t =
+            let more = count-interval (heldBelow n) (heldBelow (suc n)) (K .from) (K .to) (K .upto) off (on (eqb-true _ _ t)) outside
+            (size (shapeOf s)) (K .below) in
+            rw t (omega (arith, K .long, more))
+        go false t =
+            let same = count-same (heldBelow (suc n)) (heldBelow n) (size (shapeOf s))
+            (λ p l. same-below n p (λ a e q. eqb-false _ _ t q)) in
+            rw t (omega (arith, same))
 
     count-runs : (n : ℕ) → n ≤ s .figures .runs → count (heldBelow n) (size (shapeOf s)) ≡ runCells L ws g n
     unfolding runCells
-    count-runs zero h = ap (count (heldBelow 0)) (sym (zero-add (size (shapeOf s)))) ∙ count-beyond (heldBelow 0) 0 (size (shapeOf s)) none ∙ count-none (heldBelow 0)
+    count-runs zero h =
+        ap (count (heldBelow 0)) (sym (zero-add (size (shapeOf s))))
+        ∙ count-beyond (heldBelow 0) 0 (size (shapeOf s)) none
+        ∙ count-none (heldBelow 0)
       where
         none : (p : ℕ) → 0 ≤ p → heldBelow 0 p ≡ false
         none p l = go (nonzero cells p)
@@ -187,7 +214,9 @@ module _ (s : Session) (ws : List ℕ) (S : Sound s ws) where
             go : (b : Bool) → (b && (ltb (holderOf s ws p) 0 && eqb (number (holderOf s ws p)) g)) ≡ false
             go true = rw (le-ltb (holderOf s ws p) 0 (omega arith)) refl
             go false = refl
-    count-runs (suc n) h = count-run n h ∙ ap (λ (k : ℕ). cond (eqb (number n) g) (runEnd L ws n - runStart L ws n) 0 + k) (count-runs n (omega arith))
+    count-runs (suc n) h =
+        count-run n h
+        ∙ ap (λ (k : ℕ). cond (eqb (number n) g) (runEnd L ws n - runStart L ws n) 0 + k) (count-runs n (omega arith))
 
     cells-counted : runCells L ws g (s .figures .runs) ≡ count (heldBelow (s .figures .runs)) (size (shapeOf s))
     cells-counted = sym (count-runs (s .figures .runs) (le-refl (s .figures .runs)))
@@ -197,8 +226,11 @@ module _ (s : Session) (ws : List ℕ) (S : Sound s ws) where
     unfolding sizeAt numberAt
     size-runs h = count-same _ (heldBelow (s .figures .runs)) (size (shapeOf s)) (λ p l. at p (nonzero cells p) refl) ∙ sym cells-counted
       where
-        at : (p : ℕ) (b : Bool) → nonzero cells p ≡ b → eqb (cond (nonzero cells p) (number (holderOf s ws p)) 0) g ≡ heldBelow (s .figures .runs) p
-        at p true a = rw (a, lt-ltb (holderOf s ws p) (s .figures .runs) (rw (stores-holder s ws cells H p a) (stores-below s ws cells H p a))) refl
+        at : (p : ℕ) (b : Bool) → nonzero cells p ≡ b
+            → eqb (cond (nonzero cells p) (number (holderOf s ws p)) 0) g ≡ heldBelow (s .figures .runs) p
+        at p true a =
+            let l : holderOf s ws p < s .figures .runs = rw (stores-holder s ws cells H p a) (stores-below s ws cells H p a) in
+            rw (a, lt-ltb (holderOf s ws p) (s .figures .runs) l) refl
         at p false a = rw a (ne-eqb 0 g (λ z. omega arith))
 
     -- no more than the frame's cells
@@ -207,7 +239,7 @@ module _ (s : Session) (ws : List ℕ) (S : Sound s ws) where
 
   -- ---- ready, and written
 
-  pub sizes-ready : (n : ℕ) → n ≡ rootCount s ws → SizesReady (linesOf s) (s .figures .runs) ws n
+  sizes-ready : (n : ℕ) → n ≡ rootCount s ws → SizesReady (linesOf s) (s .figures .runs) ws n
   unfolding rootCount
   sizes-ready n e = record {
     runs = names-ready s ws S;
@@ -216,11 +248,13 @@ module _ (s : Session) (ws : List ℕ) (S : Sound s ws) where
     small = cells-fit;
   }
 
-  pub written-sizes : (ws′ out out′ : List ℕ) → length out ≡ rootCount s ws → SizesWritten (linesOf s) (s .figures .runs) ws ws′ out out′ → (ws′ ≡ withNames s ws) × (out′ ≡ sizesHeld s ws)
+  written-sizes : (ws′ out out′ : List ℕ) → length out ≡ rootCount s ws
+      → SizesWritten (linesOf s) (s .figures .runs) ws ws′ out out′ → (ws′ ≡ withNames s ws) × (out′ ≡ sizesHeld s ws)
   unfolding withNames
   written-sizes ws′ out out′ e W = (
     W .names,
-    ext-getD 0 out′ (sizesHeld s ws) (W .long ∙ e ∙ sym (length-map (range 1 (rootCount s ws)) (sizeAt s ws) ∙ length-range 1 (rootCount s ws)))
+    ext-getD 0 out′ (sizesHeld s ws)
+        (W .long ∙ e ∙ sym (length-map (range 1 (rootCount s ws)) (sizeAt s ws) ∙ length-range 1 (rootCount s ws)))
         (λ g h. let l : g < length out = rw (W .long) at h in W .counts g l ∙ sym (size-listed g (rw e at l))),
   )
     where
@@ -229,10 +263,36 @@ module _ (s : Session) (ws : List ℕ) (S : Sound s ws) where
           let q : 1 + g ≡ suc g = omega arith in
           listed-from (sizeAt s ws) 1 (rootCount s ws) g 0 l ∙ ap (sizeAt s ws) q ∙ size-runs (suc g) (omega arith)
 
--- the same, in the names of the record's geometry
-module _ (s : Session) (ws : List ℕ) (S : Sound s ws) (out : ℕ) (exact : out ≡ rootCount s ws) (g : Geo) (K : GeoOf (s .rank) (s .shape) (s .structure) g) where
-  pub counts-ready : SizesReady (g .lines) (s .figures .runs) ws out
-  counts-ready = rw (geo-lines s ws g K) (sizes-ready s ws S out exact)
+-- ---- where the check of a size call passed
 
-  pub counts-done : (ws′ to to′ : List ℕ) → length to ≡ out → SizesWritten (g .lines) (s .figures .runs) ws ws′ to to′ → (ws′ ≡ withNames s ws) × (to′ ≡ sizesHeld s ws)
-  counts-done ws′ to to′ long W = written-sizes s ws S ws′ to to′ (long ∙ exact) (rw (← geo-lines s ws g K) W)
+module _ (s : Session) (ws : List ℕ) (places : ℕ) {r : Checked} (F : RecordFound s (sizesCauseOf s ws places) r) where
+  -- where it did, n is a difference
+  pub sizes-joins : checkNumber (r .check) ≡ 0 → s .figures .joins ≤ s .figures .runs
+  sizes-joins none = joins-fit s ws (cause-sizes s ws places (sym (F .number) ∙ none) .0)
+
+  -- t is whether it failed
+  module _ {t : Bool} (is : t ≡ ltb 0 (checkNumber (r .check))) (left : t ≡ false) where
+    given : Sound s ws × (places ≡ rootCount s ws)
+    given = cause-sizes s ws places (passed-cause s F is left)
+
+    lines-are : r .geo .lines ≡ linesOf s
+    lines-are = geo-lines s ws (r .geo) (passed-geometry s F is left)
+
+    pub passed-counts : SizesReady (r .geo .lines) (s .figures .runs) ws places
+    passed-counts = rw lines-are (sizes-ready s ws (given .0) places (given .1))
+
+    written : {ws′ out out′ : List ℕ} → SizesWritten (r .geo .lines) (s .figures .runs) ws ws′ out out′
+        → SizesWritten (linesOf s) (s .figures .runs) ws ws′ out out′
+    written W = rw (← lines-are) W
+
+pub passed-sizes : {s : Session} {ws out : List ℕ} {r : Checked} → RecordFound s (sizesCauseOf s ws (length out)) r
+    → {t : Bool} → t ≡ ltb 0 (checkNumber (r .check)) → t ≡ false
+    → {ws′ out′ : List ℕ} → SizesWritten (r .geo .lines) (s .figures .runs) ws ws′ out out′
+    → {s′ : Session} {a : Answer}
+    → (s′ ≡ s) × (a ≡ unless (checkNumber (r .check)) (counted (s .figures .runs - s .figures .joins) (s .figures)))
+    → SizesPromise s ws out a s′ ws′ out′
+passed-sizes {s} {ws} {out} F is left {ws′} {out′} W A =
+    let g = given s ws (length out) F is left in
+    let counts = written-sizes s ws (g .0) ws′ out out′ (g .1) (written s ws (length out) F is left W) in
+    let said = A .1 ∙ unless-none _ _ (passed-none _ _ is left) in
+    sizes-promise s ws out (passed-cause s F is left) ws′ out′ counts _ said _ (A .0)

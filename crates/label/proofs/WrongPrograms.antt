@@ -115,7 +115,8 @@ unfolding begun one two computed
 halves a s P = let z : _≡_ {A = ℕ} 0 1 = ap (word 18) (P .accepted refl .no-lines refl) in omega arith
 
 -- two lines where one is left: refused, it writes a line's start; it stores the lines
-writes-refused : (a : Answer) (s : Session) (ws : List ℕ) → FeedPromise (two .session) (two .words) 2 (line ++ line) a s ws → word 3 ws ≡ 6 → ⊥
+writes-refused : (a : Answer) (s : Session) (ws : List ℕ) → FeedPromise (two .session) (two .words) 2 (line ++ line) a s ws → word 3 ws ≡ 6
+    → ⊥
 unfolding begun one two computed
 writes-refused a s ws P e = let h : 0 < 7 = omega arith in let z : word 3 ws ≡ 7 = ap (word 3) (P .refusal h) in omega arith
 
@@ -210,7 +211,8 @@ whole-stores a ws out P e =
     let v = F .fed-words in
     let s : F .session ≡ held 3 5 4 = F .fed-all .session in
     let n : ws ≡ withNames (held 3 5 4) v = rw s at (F .names) in
-    let names : word 1 (withNames (held 3 5 4) v) ≡ word 1 v = setAll-other (namePlace 3) (numberIn (parentOf 3 v)) 5 v 1 (λ r h q. omega arith) in
+    let names : word 1 (withNames (held 3 5 4) v) ≡ word 1 v = setAll-other (namePlace 3) (numberIn (parentOf 3 v)) 5 v 1
+    (λ r h q. omega arith) in
     let z : word 1 v ≡ 2 = F .fed-all .accepted refl .others 1 (λ r h q. omega arith) in
     omega (arith, ap (word 1) n)
 
@@ -224,7 +226,8 @@ whole-names a ws out P e =
     let long : length v ≡ 28 = F .fed-all .accepted refl .long in
     let low : word 6 v ≤ 0 = F .fed-all .accepted refl .parents 0 (omega arith) in
     let root : word 6 v ≡ 0 = omega arith in
-    let names : word 7 (withNames (held 3 5 4) v) ≡ numberIn (parentOf 3 v) 0 = setAll-at (namePlace 3) (numberIn (parentOf 3 v)) 5 v (λ i j a b q. omega arith) 0 (omega arith) (omega arith) in
+    let names : word 7 (withNames (held 3 5 4) v) ≡ numberIn (parentOf 3 v) 0 = setAll-at (namePlace 3) (numberIn (parentOf 3 v)) 5 v
+    (λ i j a b q. omega arith) 0 (omega arith) (omega arith) in
     let z : numberIn (parentOf 3 v) 0 ≡ 1 = rw root in
     omega (arith, ap (word 7) n)
 

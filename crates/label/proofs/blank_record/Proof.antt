@@ -12,7 +12,8 @@ zero-requires c κs = tt
 
 returns : tie.Need-returns
 unfolding padded
-returns c = ap (λ (f : Figures). record { rank = 0; shape = padded 4 []; structure = padded 81 []; fed = 0; figures = f }) (c .zero .ensures)
+returns c =
+    ap (λ (f : Figures). record { rank = 0; shape = padded 4 []; structure = padded 81 []; fed = 0; figures = f }) (c .zero .ensures)
 
 pub blank-record-spec : {M : Type 1} → statement M
 blank-record-spec = tie.close (tie.spec zero-requires returns)

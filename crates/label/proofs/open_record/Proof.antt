@@ -1,12 +1,7 @@
 -- `open_record` meets its contract: its arrays begin with the shape and the structure.
 -- Assumes nothing.
 use mathlib.Core.Path.{refl}
-use mathlib.Core.List.{List}
-use Prim.Native.Nat.{ℕ}
 use borrow.Author.Needs.{needs}
-use denote.Ref.{now}
-use lib.ListN.{length}
-use Rattle.frame.specs.Plain.{zeroFigures}
 use Rattle.label.proofs.open_record.Statement.{statement}
 use Rattle.label.proofs.open_record.Tie as tie
 

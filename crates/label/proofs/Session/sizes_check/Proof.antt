@@ -1,8 +1,6 @@
 -- `sizes_check` meets its contract: a sound record is checked further, by its geometry.
 -- Assumes nothing.
 use borrow.Author.Needs.{needs}
-use denote.Ref.{now}
-use Rattle.causes.proofs.CaseLaws.{failed-some, passed-none}
 use Rattle.label.proofs.FitLaws.{joins-fit}
 use Rattle.label.proofs.CheckLaws.{sizes-unsound, found-sound, sizes-found}
 use Rattle.label.proofs.Session.sizes_check.Statement.{statement}
@@ -15,26 +13,21 @@ failed-requires : tie.Need-failed-requires
 failed-requires c κs = search needs
 
 returns : tie.Need-returns
-returns c = let s = c .before .before .before .before .args in sizes-unsound (s .self) (now (s .words)) _ (c .before .before .sound-check .ensures) (failed-some _ _ (c .before .failed .ensures) (c .if1 .taken)) (s .places)
+returns c = sizes-unsound _ _ (c .before .before .sound-check .ensures) (c .before .failed .ensures) (c .if1 .taken) _
 
 sub-sizes-check : tie.Need-sub-sizes-check
-sub-sizes-check c = let s = c .before .before .before .before .before .before .args in joins-fit (s .self) (now (s .words)) (found-sound (s .self) (now (s .words)) _ (c .before .before .before .before .sound-check .ensures) (passed-none _ _ (c .before .before .before .failed .ensures) (c .before .before .if1 .left)))
+sub-sizes-check c =
+    let i = c .before .before in
+    joins-fit _ _ (found-sound _ _ (i .before .before .sound-check .ensures) (i .before .failed .ensures) (i .if1 .left))
 
 sizes-check-requires : tie.Need-sizes-check-requires
 sizes-check-requires c κs = search needs
 
 returns-2 : tie.Need-returns-2
 returns-2 c =
-    let s = c .before .before .before .before .before .before .before .args in
-    sizes-found (s .self) (now (s .words)) _ (c .before .before .before .before .before .sound-check .ensures) (passed-none _ _ (c .before .before .before .before .failed .ensures) (c .before .before .before .if1 .left)) _ (s .places) (c .sizes-check .ensures)
+    let i = c .before .before .before in
+    sizes-found _ _ (i .before .before .sound-check .ensures) (i .before .failed .ensures) (i .if1 .left) _ (c .sizes-check .ensures)
 
 pub sizes-check-spec : {M : Type 1} → statement M
 sizes-check-spec =
-    tie.close
-    (tie.spec
-    sound-check-requires
-    failed-requires
-    returns
-    sub-sizes-check
-    sizes-check-requires
-    returns-2)
+    tie.close (tie.spec sound-check-requires failed-requires returns sub-sizes-check sizes-check-requires returns-2)
