@@ -320,7 +320,9 @@ fn session(r: &mut Random, tries: usize) {
 fn readings(r: &mut Random, tries: usize) {
     println!("a session of 1,024 by 1,024, all lines fed, ms: a feed of no lines; a reading into u8, u16, u32 (NaN: the kind does not hold n); a size call");
     let n = 1024;
-    for (what, cells) in [("clumps 10%", disks(r, n, 10)), ("clumps 40%", disks(r, n, 40)), ("noise 10%", noise(r, n * n, 10)), ("noise 50%", noise(r, n * n, 50))] {
+    let clumps = [2, 10, 40].map(|percent| (format!("clumps {percent}%"), disks(r, n, percent)));
+    let dense = [10, 50].map(|percent| (format!("noise {percent}%"), noise(r, n * n, percent)));
+    for (what, cells) in clumps.into_iter().chain(dense) {
         let mut scan = Scan::open(n);
         scan.feed(n, &cells);
         let look = (0..tries).fold(f64::MAX, |least, _| least.min(scan.feed(0, &[]))) * 1e3;
