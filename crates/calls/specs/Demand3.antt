@@ -1,4 +1,5 @@
--- What demand 3 asks of every list of calls from an accepted opening, clause by clause. proofs/Demand3.antt proves it.
+-- What demand 3 asks of every list of calls from an accepted opening, clause by clause, and what document 01 says of the parents then.
+-- proofs/Demand3.antt proves it.
 -- Assumes nothing.
 use mathlib.Core.Path.{_≡_}
 use mathlib.Core.Logic.{_≢_, _↔_}

@@ -117,26 +117,78 @@ fn moved(x: usize, at: usize, digit: usize, n: usize) -> usize {
     NONE
 }
 
-// The cell at an offset from a cell, or NONE. The offset's code has its digits in base 3, the last dimension's lowest.
-fn neighbour(e: Extent, cell: usize, code: usize) -> usize {
-    let line = over(cell, e.width);
-    let plane = over(line, e.d2);
-    let x0 = moved(0, over(plane, e.d1), code / 27 % 3, e.d0);
-    let x1 = moved(x0, part(plane, e.d1), code / 9 % 3, e.d1);
-    let x2 = moved(x1, part(line, e.d2), code / 3 % 3, e.d2);
-    moved(x2, part(cell, e.width), code % 3, e.width)
+// An offset by its digits, one more than its parts; in a dimension that the structure lacks the digit is 1.
+pub struct Offset {
+    pub t0: usize,
+    pub t1: usize,
+    pub t2: usize,
+    pub t3: usize,
 }
 
-// The cell that a step by a structure's entry leads to, or NONE. Only the backward half counts, and each of its offsets is taken either
-// way: the entry as far behind the middle one is the same offset the other way.
-fn step_to(e: Extent, structure: &[u8], cell: usize, entry: usize) -> usize {
+// The first offset of a structure of so many entries.
+pub fn first_offset(entries: usize) -> Offset {
+    Offset {
+        t0: (entries < 81) as usize,
+        t1: (entries < 27) as usize,
+        t2: (entries < 9) as usize,
+        t3: 0,
+    }
+}
+
+// The offset after another in C order: the last digit goes up, or the one before it where that is at its end.
+pub fn next_offset(o: Offset) -> Offset {
+    if o.t3 < 2 {
+        return Offset {
+            t0: o.t0,
+            t1: o.t1,
+            t2: o.t2,
+            t3: plus(o.t3, 1),
+        };
+    }
+    if o.t2 < 2 {
+        return Offset {
+            t0: o.t0,
+            t1: o.t1,
+            t2: plus(o.t2, 1),
+            t3: 0,
+        };
+    }
+    if o.t1 < 2 {
+        return Offset {
+            t0: o.t0,
+            t1: plus(o.t1, 1),
+            t2: 0,
+            t3: 0,
+        };
+    }
+    Offset {
+        t0: plus(o.t0, 1),
+        t1: 0,
+        t2: 0,
+        t3: 0,
+    }
+}
+
+// The cell at an offset from a cell, or NONE.
+fn neighbour(e: Extent, cell: usize, o: Offset) -> usize {
+    let line = over(cell, e.width);
+    let plane = over(line, e.d2);
+    let x0 = moved(0, over(plane, e.d1), o.t0, e.d0);
+    let x1 = moved(x0, part(plane, e.d1), o.t1, e.d1);
+    let x2 = moved(x1, part(line, e.d2), o.t2, e.d2);
+    moved(x2, part(cell, e.width), o.t3, e.width)
+}
+
+// The cell that a step by a structure's entry, whose offset is given, leads to, or NONE. Only the backward half counts, and each of its
+// offsets is taken either way: the entry as far behind the middle one is the same offset the other way.
+fn step_to(e: Extent, structure: &[u8], cell: usize, entry: usize, o: Offset) -> usize {
     let middle = structure.len() / 2;
     let mirrored = less(less(structure.len(), 1), entry);
     let backward = if entry < middle { entry } else { mirrored };
     if (entry == middle) | (byte(structure, backward) == 0) {
         return NONE;
     }
-    neighbour(e, cell, less(plus(entry, 40), middle))
+    neighbour(e, cell, o)
 }
 
 // ---- the flood fill
@@ -179,9 +231,11 @@ fn reach_around(
     let mut end = from;
     let cell = get(marks, head) as usize;
     let number = get(marks, cell);
+    let mut o = first_offset(structure.len());
     for entry in 0..times(structure.len(), (head < from) as usize) {
-        let to = step_to(e, structure, cell, entry);
+        let to = step_to(e, structure, cell, entry, o);
         end = reach(flags, fed, marks, end, to, number);
+        o = next_offset(o);
     }
     end
 }

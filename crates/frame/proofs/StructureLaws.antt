@@ -35,7 +35,7 @@ twice-mid (suc r) = let i = twice-mid r in omega (arith, pow-succ' 3 r)
 pub half-mid : (r : ℕ) → 3 ^ r / 2 ≡ mid r
 half-mid r = let i = twice-mid r in div-eq-of-lt-le 2 (omega arith) (omega arith)
 
-three-pos : (r : ℕ) → 0 < 3 ^ r
+pub three-pos : (r : ℕ) → 0 < 3 ^ r
 three-pos r = omega (arith, twice-mid r)
 
 pub next-mid : (r : ℕ) → mid (suc r) ≡ 3 * mid r + 1
@@ -91,7 +91,7 @@ pub length-offset : (r c : ℕ) → length (offset r c) ≡ r
 unfolding offset
 length-offset r c = length-coords (replicate r 3) c ∙ length-replicate r 3
 
-offset-first : (r c : ℕ) → offset (suc r) c ≡ c / 3 ^ r ∷ offset r (c % 3 ^ r)
+pub offset-first : (r c : ℕ) → offset (suc r) c ≡ c / 3 ^ r ∷ offset r (c % 3 ^ r)
 unfolding offset coords
 offset-first r c = rw (size-threes r)
 

@@ -22,9 +22,9 @@ pub data Call : Type 0 where
   -- the size call, with what the slice holds before
   sizes : List ℕ → Call
 
--- ---- answers
+-- ---- answers. Each accepted one has figures, runs and joins so far, which are a struct of the code too
 
--- every accepted answer has figures: runs and joins so far, a struct of the code too. Before any line is fed
+-- the figures before any line is fed
 abbrev pub zeroFigures : Figures
 zeroFigures = record { runs = 0; joins = 0 }
 

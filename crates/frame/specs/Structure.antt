@@ -3,8 +3,9 @@
 use mathlib.Core.Path.{_≡_}
 use mathlib.Core.Bool.{Bool, false, not, _&&_, _||_}
 use mathlib.Core.List.{List, [], _∷_, map, zipWith}
-use Prim.Native.Nat.{ℕ, suc, _+_, _-_, _/_, _^_}
+use Prim.Native.Nat.{ℕ, zero, suc, _+_, _-_, _/_, _^_}
 use lib.Dec.{eqb}
+use lib.IntN.{ℤ, pos, negsuc}
 use lib.ListN.{length, getD, replicate}
 use Rattle.frame.specs.Shape.{coords}
 
@@ -12,6 +13,12 @@ use Rattle.frame.specs.Shape.{coords}
 -- dimension. An offset's code is its place in C order, from 0; its digits, one for each dimension, are 0, 1, 2 for -1, 0, 1.
 unfoldable pub offset : ℕ → ℕ → List ℕ
 offset rank code = coords (replicate rank 3) code
+
+-- the digit of one part, which is one more than it. Above 2 it is no part of an offset
+abbrev pub digit : ℤ → ℕ
+digit (pos n) = suc n
+digit (negsuc zero) = 0
+digit (negsuc (suc n)) = 3
 
 -- document 01's backward: lexicographically negative. The first part that is not 0 is -1
 unfoldable pub backward : List ℕ → Bool

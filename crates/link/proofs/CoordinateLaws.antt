@@ -16,8 +16,8 @@ use Rattle.frame.specs.Touches.{hasNbr, nbrLine}
 use Rattle.frame.proofs.ShapeLaws.{factor-pos, size-lines, coords-line}
 use Rattle.geo.proofs.DimsLaws.{three-entries, size-ones}
 use Rattle.link.specs.declared.NbrLine.the-variants.{At, Nothing}
-use Rattle.sweep.specs.Sweeps.{digit}
-use Rattle.link.specs.Offsets.{movesIn}
+use Rattle.frame.specs.Structure.{digit}
+use Rattle.link.specs.Coordinates.{movesIn}
 use Rattle.link.specs.Lines.{signedCoords, nbrOf}
 use Rattle.sweep.proofs.SignedLaws.{small}
 

@@ -1,5 +1,4 @@
 pub mod MoveLaws
-pub mod OffsetLaws
 pub mod CoordinateLaws
 pub mod NbrLineLaws
 pub mod MovesLaws

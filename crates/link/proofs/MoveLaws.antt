@@ -2,7 +2,6 @@
 -- Assumes nothing.
 use mathlib.Core.Path.{_≡_, sym, ap, ap₂, _∙_, subst}
 use mathlib.Core.Bool.{Bool, true, false, _&&_, false≢true}
-use mathlib.Core.List.{[], _∷_}
 use Prim.Native.Nat.{ℕ, zero, suc, _+_, _-_, _≤_, _<_}
 use native.Mathlib.Omega.{arith}
 use borrow.Author.Tests.{lt-ltb, le-ltb, le-leb, ltb-true}
@@ -13,8 +12,8 @@ use mir.Syntax.{w64}
 use mir.Val.{SFits, Fits, ofZ, toZ}
 use mir.Facts.{toZ-ofZ}
 use Rattle.groups.proofs.BoolLaws.{and-left}
-use Rattle.sweep.specs.Sweeps.{digit}
-use Rattle.link.specs.Offsets.{Move, movesIn, movedTo}
+use Rattle.frame.specs.Structure.{digit}
+use Rattle.link.specs.Coordinates.{Move, movesIn, movedTo}
 use Rattle.sweep.proofs.SignedLaws.{sub-cases, small, near-fits, lt-left, off-back}
 
 -- a signed number in a local: its bits, read back
@@ -120,8 +119,3 @@ module _ (c o : ℤ) (d : ℕ) (S : Move c o d) where
 
   pub moved-back : movedTo (natAbs (held c)) (digit (held o)) d ≡ movedTo (natAbs c) (digit o) d
   moved-back = rw (coord-back c (S .coordinate) low, off-back o (S .offset))
-
--- three parts of an offset, in an array
-pub offset-held : (a b c : ℤ) {x y z : ℕ} → digit a ≡ x → digit b ≡ y → digit c ≡ z → (x ≤ 2) × (y ≤ 2) × (z ≤ 2)
-    → digit (held a) ∷ digit (held b) ∷ digit (held c) ∷ [] ≡ x ∷ y ∷ z ∷ []
-offset-held a b c p q r low = rw (off-back a (rw p (low .0)), off-back b (rw q (low .1)), off-back c (rw r (low .2)), p, q, r)

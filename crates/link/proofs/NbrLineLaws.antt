@@ -14,8 +14,8 @@ use mir.Val.{Fits}
 use Rattle.groups.proofs.BoolLaws.{and-left, and-right}
 use Rattle.frame.specs.Shape.{size}
 use Rattle.link.specs.declared.NbrLine.the-variants.{At, Nothing}
-use Rattle.sweep.specs.Sweeps.{digit}
-use Rattle.link.specs.Offsets.{movesIn, movedTo}
+use Rattle.frame.specs.Structure.{digit}
+use Rattle.link.specs.Coordinates.{movesIn, movedTo}
 use Rattle.link.specs.Lines.{signedCoords, Moves, nbrOf}
 use Rattle.link.proofs.MoveLaws.{held, moved-back}
 use Rattle.geo.proofs.DimsLaws.{three-entries}

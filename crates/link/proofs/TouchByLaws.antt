@@ -16,7 +16,8 @@ use Rattle.frame.proofs.TouchLaws.{nbr-earlier}
 use Rattle.link.specs.declared.NbrLine.{NbrLine}
 use Rattle.link.specs.declared.NbrLine.the-variants.{At, Nothing}
 use Rattle.geo.specs.Geometry.{ThreeDims, leadingOf}
-use Rattle.link.specs.Lines.{threeDigits, nbrOf, pairsOf}
+use Rattle.offsets.specs.Digits.{threeDigits}
+use Rattle.link.specs.Lines.{nbrOf, pairsOf}
 use Rattle.geo.proofs.DimsLaws.{size-ones}
 use Rattle.link.proofs.CoordinateLaws.{has-ones, line-ones}
 

@@ -1,2 +1,2 @@
-pub mod Offsets
+pub mod Coordinates
 pub mod Lines

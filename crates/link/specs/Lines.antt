@@ -2,13 +2,12 @@
 -- Assumes nothing.
 use mathlib.Core.Path.{_≡_}
 use mathlib.Core.Bool.{cond}
-use mathlib.Core.List.{List, _++_, map}
-use Prim.Native.Nat.{ℕ, suc, _+_, _-_, _*_, _^_, _≤_, _<_}
+use mathlib.Core.List.{List, map}
+use Prim.Native.Nat.{ℕ, suc, _+_, _*_, _^_, _≤_, _<_}
 use lib.IntN.{ℤ, pos}
-use lib.ListN.{length, getD, take, drop, replicate}
+use lib.ListN.{length, getD, take, drop}
 use Rattle.groups.specs.Groups.{Edge}
 use Rattle.frame.specs.Shape.{size, coords}
-use Rattle.frame.specs.Structure.{offset}
 use Rattle.frame.specs.Memory.{stride}
 use Rattle.frame.specs.Words.{lineStart, parentOf, storedRun}
 use Rattle.frame.specs.Touches.{hasNbr, nbrLine, touchesBy, touchesOf}
@@ -18,14 +17,10 @@ use Rattle.forest.specs.Unions.{United}
 use Rattle.sweep.specs.declared.Nbr.{Nbr}
 use Rattle.link.specs.declared.NbrLine.{NbrLine}
 use Rattle.link.specs.declared.NbrLine.the-variants.{At, Nothing}
-use Rattle.link.specs.Offsets.{Move}
+use Rattle.link.specs.Coordinates.{Move}
 use Rattle.sweep.specs.Sweeps.{InOrder, linkPairs}
 
--- ---- offsets and coordinates in three dimensions
-
--- an offset of n leading dimensions as the digits of three: 1, for 0, in those before
-unfoldable pub threeDigits : ℕ → ℕ → List ℕ
-threeDigits n code = replicate (3 - n) 1 ++ offset n code
+-- ---- coordinates in three dimensions
 
 -- a line's leading coordinates as signed numbers
 abbrev pub signedCoords : List ℕ → ℕ → List ℤ

@@ -1,18 +1,18 @@
 // The union of a line with its neighbours.
 //
 //     union_line    unites the runs of a line with those that they touch in the lines before, and answers how many unions were joins
-//     nbr_line      a line's neighbour by coordinates, for an offset that `delta` gives
+//     nbr_line      a line's neighbour by coordinates, for an offset that `offsets::delta` gives
 //
 // Promised (specs/Lines.antt): the roots afterwards are those of the grouping held before with the line's touches added, the count is
 // that of the unions whose roots differed, and every word but parents stands.
 ghost use mathlib.Core.Path.{_≡_};
 ghost use mathlib.Core.List.{map};
-ghost use Prim.Native.Nat.{ℕ, _/_, _^_, _≤_, _<_};
+ghost use Prim.Native.Nat.{ℕ, _/_, _^_, _<_};
 ghost use lib.IntN.{natAbs};
 ghost use Rattle.frame.specs.Shape.{size};
-ghost use Rattle.sweep.specs.Sweeps.{digit};
-ghost use Rattle.link.specs.Offsets.{Move, movedTo};
-ghost use Rattle.link.specs.Lines.{threeDigits, signedCoords, Moves, nbrOf, runsTo};
+ghost use Rattle.frame.specs.Structure.{digit};
+ghost use Rattle.link.specs.Coordinates.{Move, movedTo};
+ghost use Rattle.link.specs.Lines.{signedCoords, Moves, nbrOf, runsTo};
 ghost use Rattle.link.specs.Lines.{LinesReady, LineReady, UnitedIn, LineUnited, UnitedBy, pairsOf};
 
 // ---- a line and all its neighbours. The words are the whole memory: line starts, then the runs' words
@@ -28,7 +28,7 @@ pub fn union_line(words: &mut [u32], g: geo::Geo, structure: &[u8], line: usize)
     }
     let dims = g.dims;
     let c = coords(dims, line);
-    let count = backward_count(g.leads);
+    let count = offsets::backward_count(g.leads);
     let mut joins: usize = 0;
     let mut code: usize = 0;
     while code < count {
@@ -55,7 +55,7 @@ fn union_by(
     let next = structure[3 * code + 2] != 0;
     if prev | adj | next {
         let dims = g.dims;
-        let o = delta(g.leads, code);
+        let o = offsets::delta(g.leads, code);
         match nbr_line(dims, c, o) {
             NbrLine::At(m) => link_lines(words, g.lines, line, m, sweep::Nbr { prev, adj, next }),
             NbrLine::Nothing => 0,
@@ -79,44 +79,6 @@ fn link_lines(words: &mut [u32], lines: usize, line: usize, m: usize, by: sweep:
     };
     let base = lines + 1;
     sweep::link(&mut words[base..], at, by)
-}
-
-// ---- leading offsets, by their codes
-
-// How many offsets of `n` leading dimensions are backward: they have the first codes.
-pub fn backward_count(n: usize) -> usize
-    requires { ⌜ n ≤ 3 ⌝ }
-    ensures { λ r. ⌜ r ≡ 3 ^ n / 2 ⌝ }
-{
-    if n == 0 {
-        return 0;
-    }
-    if n == 1 {
-        return 1;
-    }
-    if n == 2 {
-        return 4;
-    }
-    13
-}
-
-// The offset of `n` leading dimensions with that code, as three parts: 0 in the dimensions before those. Of the 27 offsets of three
-// dimensions the centre's code is 13.
-pub fn delta(n: usize, code: usize) -> [i64; 3]
-    requires { ⌜ (n ≤ 3) × (code < 3 ^ n) ⌝ }
-    ensures { λ r. ⌜ map digit r ≡ threeDigits n code ⌝ }
-{
-    let half = backward_count(n);
-    let c = 13 - half + code;
-    [part(c / 9), part(c / 3 % 3), part(c % 3)]
-}
-
-// The part of an offset that has the digit `t`: -1, 0 or 1.
-fn part(t: usize) -> i64
-    requires { ⌜ t ≤ 2 ⌝ }
-    ensures { λ r. ⌜ digit r ≡ t ⌝ }
-{
-    t as i64 - 1
 }
 
 // ---- the neighbour's line, by coordinates. The dimensions are three, those before the first being 1

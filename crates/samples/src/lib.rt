@@ -159,28 +159,22 @@ fn random_shape(rank: usize, x: u64) -> [usize; 4] {
 
 // ---- structures
 
-// How many of an offset's parts are not 0, from its code's four digits.
-fn moves(code: usize) -> usize {
-    let a = plus((code % 3 != 1) as usize, (code / 3 % 3 != 1) as usize);
-    let b = plus((code / 9 % 3 != 1) as usize, (code / 27 % 3 != 1) as usize);
+// How many of an offset's parts are not 0, from its four digits.
+fn moves(o: flood::Offset) -> usize {
+    let a = plus((o.t0 != 1) as usize, (o.t1 != 1) as usize);
+    let b = plus((o.t2 != 1) as usize, (o.t3 != 1) as usize);
     plus(a, b)
 }
 
-// 0: all ones; 1: faces; 2: many; 3: few; 4: many, the same either way.
-fn structure_byte(mode: u64, middle: usize, i: usize, x: u64, mirrored: u8) -> u8 {
+// 0: all ones; 1: faces; 2: many; 3: few; 4: many, the same either way. The entry is behind the middle one or not, and has that offset.
+fn structure_byte(mode: u64, behind: bool, o: flood::Offset, x: u64, mirrored: u8) -> u8 {
     let drawn = x % 12;
     match mode {
         0 => 1,
-        1 => (moves(less(plus(i, 40), middle)) < 2) as u8,
+        1 => (moves(o) < 2) as u8,
         2 => (drawn < 6) as u8,
         3 => ((drawn < 2) as u8) << 7,
-        _ => {
-            if i > middle {
-                mirrored
-            } else {
-                (drawn < 5) as u8
-            }
-        }
+        _ => { if behind { mirrored } else { (drawn < 5) as u8 } }
     }
 }
 
@@ -198,10 +192,16 @@ fn make_structure(structure: &mut [u8], count: usize, x: u64) {
     let middle = count / 2;
     let left = less(middle, 1);
     let mut y = x;
+    let mut o = flood::first_offset(count);
     for i in 0..count {
         y = next(y);
         let mirrored = byte(structure, less(less(count, 1), i));
-        put_byte(structure, i, structure_byte(x % 5, middle, i, y, mirrored));
+        put_byte(
+            structure,
+            i,
+            structure_byte(x % 5, i > middle, o, y, mirrored),
+        );
+        o = flood::next_offset(o);
     }
     let before = byte(structure, left);
     put_byte(structure, left, left_byte(before, next(y)));

@@ -8,7 +8,7 @@ use lib.IntN.{ℤ, pos, negsuc, negℤ, _-ℤ_}
 use mir.Syntax.{w64}
 use mir.Val.{SFits, boolByte, ofZ, toZ}
 use mir.Facts.{toZ-ofZ}
-use Rattle.sweep.specs.Sweeps.{digit}
+use Rattle.frame.specs.Structure.{digit}
 use Rattle.sweep.proofs.SignedLaws.{small, near-fits, neg-digit, off-back}
 use Rattle.sweep.proofs.ReachedLaws.{wide}
 

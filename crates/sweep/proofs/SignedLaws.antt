@@ -13,7 +13,7 @@ use mir.Val.{SFits, ofZ, toZ}
 use mir.ValLaws.{toZ-pos}
 use mir.Facts.{toZ-ofZ}
 use Rattle.groups.proofs.BoolLaws.{bool-same}
-use Rattle.sweep.specs.Sweeps.{digit}
+use Rattle.frame.specs.Structure.{digit}
 
 -- ---- a difference of naturals is one of two forms: the one law that takes `subℕ` apart
 either : (P : ℤ → Type 0) (t : Bool) (x y : ℤ) → (t ≡ true → P x) → (t ≡ false → P y) → P (cond t x y)

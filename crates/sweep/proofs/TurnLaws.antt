@@ -20,7 +20,8 @@ use Rattle.forest.proofs.ForestLaws.{roots-others}
 use Rattle.forest.proofs.ParentLaws.{parents-fewer, kept-parents}
 use Rattle.forest.proofs.UnitedLaws.{united-none, united-then, united-groups, joined-united}
 use Rattle.sweep.specs.declared.LinePair.{LinePair}
-use Rattle.sweep.specs.Sweeps.{digit, runIn, InOrder, TwoLines, ToSkip, Skipped, ToRow, rowPairs, RowUnites, sweepPairs}
+use Rattle.frame.specs.Structure.{digit}
+use Rattle.sweep.specs.Sweeps.{runIn, InOrder, TwoLines, ToSkip, Skipped, ToRow, rowPairs, RowUnites, sweepPairs}
 use Rattle.sweep.proofs.SweepLaws.{starts, order-from, row-none, row-more, row-stop, row-ends, between, sweep-none, sweep-more}
 use Rattle.sweep.proofs.SweepLaws.{sweep-row, sweep-ends, rises}
 

@@ -1,12 +1,13 @@
--- Offsets of -1, 0 or 1, runs in run words, and what the sweeps of two lines ask and do. The words begin with the first run's.
+-- Runs in run words, and what the sweeps of two lines ask and do. The words begin with the first run's.
 -- Assumes nothing.
 use mathlib.Core.Bool.{Bool, not, _&&_}
 use mathlib.Core.List.{List}
-use Prim.Native.Nat.{ℕ, zero, suc, _+_, _-_, _*_, _≤_, _<_, max}
+use Prim.Native.Nat.{ℕ, suc, _+_, _-_, _*_, _≤_, _<_, max}
 use lib.Dec.{ltb, leb}
-use lib.IntN.{ℤ, pos, negsuc}
+use lib.IntN.{ℤ}
 use lib.ListN.{length, getD}
 use Rattle.groups.specs.Groups.{Edge, pairs}
+use Rattle.frame.specs.Structure.{digit}
 use Rattle.frame.specs.Memory.{stride}
 use Rattle.frame.specs.Runs.{Run}
 use Rattle.frame.specs.Words.{startAt, endAt}
@@ -14,12 +15,6 @@ use Rattle.frame.specs.Touches.{reaches}
 use Rattle.forest.specs.Unions.{Parents, United}
 use Rattle.sweep.specs.declared.LinePair.{LinePair}
 use Rattle.sweep.specs.declared.Nbr.{Nbr}
-
--- the digit of an offset, as in the structure's order: 0, 1, 2 for -1, 0, 1. Above 2 it is no offset
-abbrev pub digit : ℤ → ℕ
-digit (pos n) = suc n
-digit (negsuc zero) = 0
-digit (negsuc (suc n)) = 3
 
 -- run r
 abbrev pub runIn : List ℕ → ℕ → Run

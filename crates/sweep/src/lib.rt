@@ -9,7 +9,8 @@ ghost use mathlib.Core.Path.{_≡_};
 ghost use Prim.Native.Nat.{_+_, _-_, _≤_};
 ghost use lib.Dec.{ltb, leb};
 ghost use Rattle.forest.specs.Unions.{United};
-ghost use Rattle.sweep.specs.Sweeps.{digit, runIn, TwoLines, ToSweep, ToSkip, ToRow, Skipped, RowUnites, sweepPairs, linkPairs};
+ghost use Rattle.frame.specs.Structure.{digit};
+ghost use Rattle.sweep.specs.Sweeps.{runIn, TwoLines, ToSweep, ToSkip, ToRow, Skipped, RowUnites, sweepPairs, linkPairs};
 
 // The Rust's `Nbr`, of which here the three bytes of a leading offset: cell x of the neighbouring line touches cell x + 1 of the current
 // one (prev), x (adj), x - 1 (next).

@@ -7,10 +7,10 @@ use Rattle.flood.proofs.reach_around.Statement.{statement}
 use Rattle.flood.proofs.reach_around.Tie as tie
 
 abbrev Inv-loop : tie.InvT-loop
-Inv-loop e structure flags fed marks₀ head from end₀ cell number entry₀ entry-end marks end entry = Unit {0}
+Inv-loop e structure flags fed marks₀ head from end₀ cell number o₀ entry₀ entry-end marks end o entry = Unit {0}
 
 abbrev μ-loop : tie.MeasureT-loop
-μ-loop e structure flags fed marks₀ head from end₀ cell number entry₀ entry-end marks end entry = entry-end - entry
+μ-loop e structure flags fed marks₀ head from end₀ cell number o₀ entry₀ entry-end marks end o entry = entry-end - entry
 
 get-requires : tie.Need-get-requires Inv-loop μ-loop
 get-requires c κs = tt
@@ -20,6 +20,9 @@ cast-cell c = search needs
 
 get-requires-2 : tie.Need-get-requires-2 Inv-loop μ-loop
 get-requires-2 c κs = tt
+
+first-offset-requires : tie.Need-first-offset-requires Inv-loop μ-loop
+first-offset-requires c κs = tt
 
 cast-times : tie.Need-cast-times Inv-loop μ-loop
 cast-times c = search needs
@@ -35,6 +38,9 @@ step-to-requires c κs = tt
 
 reach-requires : tie.Need-reach-requires Inv-loop μ-loop
 reach-requires c κs = tt
+
+next-offset-requires : tie.Need-next-offset-requires Inv-loop μ-loop
+next-offset-requires c κs = tt
 
 add-entry : tie.Need-add-entry Inv-loop μ-loop
 add-entry c = omega arith
@@ -57,11 +63,13 @@ reach-around-spec =
     get-requires
     cast-cell
     get-requires-2
+    first-offset-requires
     cast-times
     times-requires
     loop-holds
     step-to-requires
     reach-requires
+    next-offset-requires
     add-entry
     loop-less
     loop-again

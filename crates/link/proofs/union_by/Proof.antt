@@ -1,16 +1,14 @@
 -- `union_by` meets its contract: by an offset that is not used, or leads out of the frame, there is no touch.
 -- Assumes nothing.
-use mathlib.Core.Path.{_≡_, sym, ap, _∙_, subst}
+use mathlib.Core.Path.{_≡_, sym, _∙_, subst}
 use mathlib.Core.List.{List}
-use Prim.Native.Nat.{ℕ}
-use native.Mathlib.Omega.{arith}
 use borrow.Author.Needs.{needs}
 use denote.Ref.{now}
 use lib.ListN.{length}
 use Rattle.groups.specs.Groups.{Edge}
 use Rattle.frame.specs.Structure.{on}
-use Rattle.link.specs.Lines.{nbrOf, UnitedIn, runsTo}
-use Rattle.link.proofs.MovesLaws.{moves-ready}
+use Rattle.link.specs.Lines.{UnitedIn, runsTo}
+use Rattle.link.proofs.MovesLaws.{moves-ready, found-by}
 use Rattle.link.proofs.TouchByLaws.{by-earlier, by-pairs, by-none, by-unused}
 use Rattle.link.proofs.PartLaws.{in-none}
 use Rattle.link.proofs.union_by.Statement.{statement}
@@ -51,7 +49,7 @@ nbr-line-requires : tie.Need-nbr-line-requires
 nbr-line-requires c κs =
     let s = c .before .before .before .before .before .before .before .before in
     moves-ready (s .args .g .leads) (s .args .g .dims) (s .args .g .lines) (s .args .line) (s .args .code) (s .pre .0 .leading) (three s)
-    (s .pre .0 .lines .within) (omega (arith, s .pre .2)) (s .args .c) (c .delta .result) (s .pre .1) (search needs) (c .delta .ensures)
+    (s .pre .0 .lines .within) (s .args .c) (c .delta .result) (s .pre .1) (c .delta .ensures)
 
 enum-known-m : tie.Need-enum-known-m
 enum-known-m c = search needs
@@ -61,8 +59,8 @@ unfolding on
 link-lines-requires c κs =
     let s = c .before .before .before .before .before .before .before .before .before .before .before .before .before in
     let at = sym (c .before .before .m .given .1)
-    ∙ (c .before .before .before .before .nbr-line .ensures (s .args .line) (s .pre .1)
-    ∙ ap (λ (l : List ℕ). nbrOf (s .args .g .dims) l (s .args .line)) (c .before .before .before .before .before .delta .ensures)) in (
+    ∙ found-by _ _ _ (c .before .before .before .before .before .delta .ensures) (s .args .g .dims) (s .args .line)
+    (c .before .before .before .before .nbr-line .ensures (s .args .line) (s .pre .1)) in (
       s .pre .0 .lines,
       by-earlier (s .args .g .leads) (s .args .g .dims) (s .args .g .lines) (s .pre .0 .leading) (three s)
           (now (s .args .structure)) (now (s .args .words)) (s .args .line) (s .args .code) (s .pre .0 .lines .within) (s .pre .2)
@@ -82,9 +80,8 @@ returns c =
     c .before .before .before .before .before .before .before .before .before .before .before .before .before .before .before .before in
     let u = c .before .before in
     let at = sym (u .before .before .before .m .given .1)
-    ∙ (u .before .before .before .before .before .nbr-line .ensures (s .args .line) (s .pre .1)
-    ∙ ap (λ (l : List ℕ). nbrOf (s .args .g .dims) l (s .args .line))
-    (u .before .before .before .before .before .before .delta .ensures)) in
+    ∙ found-by _ _ _ (u .before .before .before .before .before .before .delta .ensures) (s .args .g .dims) (s .args .line)
+    (u .before .before .before .before .before .nbr-line .ensures (s .args .line) (s .pre .1)) in
     subst (λ (es : List Edge). UnitedIn (s .args .g .lines) (now (s .args .words)) (u .link-lines .last .0)
     (runsTo (now (s .args .words)) (s .args .line)) es (u .link-lines .result))
     (sym (by-pairs (s .args .g .leads) (s .args .g .dims) (s .args .g .lines) (s .pre .0 .leading) (three s) (now (s .args .structure))
@@ -97,8 +94,8 @@ unfolding on
 returns-2 c =
     let s = c .before .before .before .before .before .before .before .before .before .before .before in
     let none = sym (c .enum-told .given .1)
-    ∙ (c .before .before .nbr-line .ensures (s .args .line) (s .pre .1)
-    ∙ ap (λ (l : List ℕ). nbrOf (s .args .g .dims) l (s .args .line)) (c .before .before .before .delta .ensures)) in
+    ∙ found-by _ _ _ (c .before .before .before .delta .ensures) (s .args .g .dims) (s .args .line)
+    (c .before .before .nbr-line .ensures (s .args .line) (s .pre .1)) in
     subst (λ (es : List Edge). UnitedIn (s .args .g .lines) (now (s .args .words)) (now (s .args .words))
     (runsTo (now (s .args .words)) (s .args .line)) es 0)
     (sym (by-none (s .args .g .leads) (s .args .g .dims) (s .args .g .lines) (s .pre .0 .leading) (three s) (now (s .args .structure))

@@ -8,13 +8,16 @@ use Rattle.samples.proofs.make_structure.Statement.{statement}
 use Rattle.samples.proofs.make_structure.Tie as tie
 
 abbrev Inv-loop : tie.InvT-loop
-Inv-loop structure₀ count x middle left y₀ i₀ structure y i = length structure ≡ length structure₀
+Inv-loop structure₀ count x middle left y₀ o₀ i₀ structure y o i = length structure ≡ length structure₀
 
 abbrev μ-loop : tie.MeasureT-loop
-μ-loop structure₀ count x middle left y₀ i₀ structure y i = count - i
+μ-loop structure₀ count x middle left y₀ o₀ i₀ structure y o i = count - i
 
 less-requires : tie.Need-less-requires Inv-loop μ-loop
 less-requires c κs = search needs
+
+first-offset-requires : tie.Need-first-offset-requires Inv-loop μ-loop
+first-offset-requires c κs = search needs
 
 loop-holds : tie.Need-loop-holds Inv-loop μ-loop
 loop-holds c = search needs
@@ -36,6 +39,9 @@ structure-byte-requires c κs = search needs
 
 put-byte-requires : tie.Need-put-byte-requires Inv-loop μ-loop
 put-byte-requires c κs = search needs
+
+next-offset-requires : tie.Need-next-offset-requires Inv-loop μ-loop
+next-offset-requires c κs = search needs
 
 add-i : tie.Need-add-i Inv-loop μ-loop
 add-i c = search needs
@@ -71,6 +77,7 @@ make-structure-spec =
     Inv-loop
     μ-loop
     less-requires
+    first-offset-requires
     loop-holds
     next-requires
     less-requires-2
@@ -78,6 +85,7 @@ make-structure-spec =
     byte-requires
     structure-byte-requires
     put-byte-requires
+    next-offset-requires
     add-i
     loop-less
     loop-again

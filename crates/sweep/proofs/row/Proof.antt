@@ -6,7 +6,7 @@ use native.Mathlib.Omega.{arith}
 use borrow.Author.Needs.{needs}
 use mir.Syntax.{w64}
 use mir.Val.{toZ}
-use Rattle.sweep.specs.Sweeps.{digit}
+use Rattle.frame.specs.Structure.{digit}
 use Rattle.sweep.proofs.SignedLaws.{off-back}
 use Rattle.sweep.proofs.ShiftLaws.{off-le}
 use Rattle.sweep.proofs.TurnLaws.{RowTo, row-begins, row-parents, row-turn, row-done}

@@ -5,7 +5,7 @@ use Prim.Native.Nat.{_+_}
 use native.Mathlib.Omega.{arith}
 use borrow.Author.Needs.{needs}
 use lib.IntN.{negℤ}
-use Rattle.sweep.specs.Sweeps.{digit}
+use Rattle.frame.specs.Structure.{digit}
 use Rattle.sweep.proofs.SignedLaws.{off-back, sum-fits, test-lt-left, neg-digit, ltb-same}
 use Rattle.sweep.proofs.starts_before.Statement.{statement}
 use Rattle.sweep.proofs.starts_before.Tie as tie

@@ -5,7 +5,7 @@ use mathlib.Core.Bool.{Bool, cond, _&&_}
 use Prim.Native.Nat.{ℕ, _+_, _-_, _≤_, _<_}
 use lib.Dec.{ltb, leb}
 use lib.IntN.{ℤ, pos, natAbs}
-use Rattle.sweep.specs.Sweeps.{digit}
+use Rattle.frame.specs.Structure.{digit}
 
 -- c is a coordinate in a dimension of d, which a word holds, and o an offset
 pub record Move (c o : ℤ) (d : ℕ) : Type 0 where

@@ -1,0 +1,4 @@
+pub mod Answers
+pub mod CaseLaws
+pub mod DigitLaws
+pub mod OffsetLaws
