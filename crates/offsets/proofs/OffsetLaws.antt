@@ -29,12 +29,18 @@ half-at m n e = ap (λ (k : ℕ). 3 ^ k / 2) (sym e)
 -- ---- parts and digits
 
 -- a digit is its part plus one
-pub part-plus-one : (z : ℤ) → digit z ≤ 2 → z +ℤ pos 1 ≡ pos (digit z)
+part-plus-one : (z : ℤ) → digit z ≤ 2 → z +ℤ pos 1 ≡ pos (digit z)
 part-plus-one (pos n) h = ap pos (add-one n)
 part-plus-one (negsuc zero) h = refl
 part-plus-one (negsuc (suc n)) h = absurd (omega arith)
 
--- and no other part has it
+plus-one : (o : List ℤ) → areDigits (map digit o) ≡ true → map (λ (z : ℤ). z +ℤ pos 1) o ≡ map pos (map digit o)
+plus-one [] h = refl
+plus-one (z ∷ o) h =
+    let low = ltb-true (digit z) 3 (and-left _ (areDigits (map digit o)) h) in
+    ap₂ (λ (x : ℤ) (l : List ℤ). x ∷ l) (part-plus-one z (omega arith)) (plus-one o (and-right (ltb (digit z) 3) _ h))
+
+-- no other part has its digit
 one-part : (y z : ℤ) → digit y ≤ 2 → digit y ≡ digit z → y ≡ z
 one-part (pos a) (pos b) h e = let q : a ≡ b = omega arith in ap pos q
 one-part (pos a) (negsuc zero) h e = absurd (omega arith)
@@ -69,6 +75,11 @@ module _ (n code : ℕ) (o : List ℤ) (O : OffsetOf n code o) where
   split =
       ap (map digit) (sym (take-append-drop (3 - n) o)) ∙ map-append digit (take (3 - n) o) (drop (3 - n) o)
       ∙ ap (λ (l : List ℕ). l ++ map digit (drop (3 - n) o)) (ap (map digit) (O .before) ∙ zeros-digits (3 - n))
+
+  -- its parts plus one are the code's digits in base three
+  pub parts-plus-one : map (λ (z : ℤ). z +ℤ pos 1) (drop (3 - n) o) ≡ map pos (offset n code)
+  parts-plus-one =
+      plus-one (drop (3 - n) o) (O .digits .low) ∙ ap (map pos) (digits-offset n code (map digit (drop (3 - n) o)) (O .digits))
 
   -- the listed offset has the digits of frame's
   pub three-digits : map digit o ≡ threeDigits n code

@@ -28,7 +28,6 @@ pub record DigitsOf (n v : ℕ) (ts : List ℕ) : Type 0 where
 -- o is the offset with that code of n leading dimensions, as three parts: its parts plus one are the code's digits in base three, the
 -- first dimension's highest, and in the dimensions before those it is 0
 pub record OffsetOf (n code : ℕ) (o : List ℤ) : Type 0 where
-  pub three : length o ≡ 3
   pub before : take (3 - n) o ≡ replicate (3 - n) (pos 0)
   pub digits : DigitsOf n code (map digit (drop (3 - n) o))
 
