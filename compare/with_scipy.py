@@ -1,4 +1,5 @@
-# Random frames to this repository's whole-frame calls and to scipy.ndimage.label: n and every number. Build and run it by ./scipy.
+# Random frames to this repository's whole-frame calls and to scipy.ndimage.label: n and every number, and that both refuse lopsided
+# structures. Build and run it by ./scipy.
 import ctypes
 import sys
 from collections import Counter
@@ -11,16 +12,27 @@ CELLS = {"u8": np.uint8, "u16": np.uint16, "i16": np.int16, "f32": np.float32}
 NUMBERS = {"u8": np.uint8, "u16": np.uint16, "u32": np.uint32}
 # those of a float that a test for zero may get wrong: -0.0, NaN, the infinities, the least and another subnormal
 FLOATS = np.array([-0.0, np.nan, np.inf, -np.inf, 1e-45, -1e-40, 1.0], np.float32)
-REFUSED = 10
+REFUSED, LOPSIDED = 10, 12
+# what is lent holds this before a call
+WORD, PLACE, FIGURE = 0xABCDEF01, 77, 99
 
 
 def structure_of(r, rank):
-    """Symmetric about its middle; SciPy's own three times of ten."""
+    """Symmetric about its middle; SciPy's own three times of ten. A byte that is set has any value."""
     kind = r.integers(10)
     if kind < 3:
-        return ndimage.generate_binary_structure(rank, int(r.integers(1, rank + 1)))
+        return ndimage.generate_binary_structure(rank, int(r.integers(1, rank + 1))).astype(np.uint8)
     s = r.random((3,) * rank) < r.choice([0.05, 0.2, 0.5, 0.9])
-    return s | s[(slice(None, None, -1),) * rank]
+    return np.where(s | s[(slice(None, None, -1),) * rank], r.integers(1, 256, s.shape), 0).astype(np.uint8)
+
+
+def lopsided_of(r, structure):
+    """With one byte of a pair set, or cleared."""
+    s = structure.copy()
+    at = int(r.integers(s.size - 1))
+    at += at >= s.size // 2
+    s.flat[at] = 0 if s.flat[at] else r.integers(1, 256)
+    return s
 
 
 def shape_of(r, rank):
@@ -44,20 +56,20 @@ def cells_of(r, shape, kind):
 
 
 def ours(lib, cells, structure, number, blocks):
-    """What is returned, n with runs and joins, and the output."""
+    """What is returned, n with runs and joins, the output, and whether all that was lent stands."""
     shape = (ctypes.c_size_t * cells.ndim)(*cells.shape)
-    bytes_ = structure.astype(np.uint8).ravel()
+    bytes_ = structure.ravel()
     lines, width = int(np.prod(cells.shape[:-1])), cells.shape[-1]
-    words = np.full(lines + 1 + 4 * lines * width, 0xABCDEF01, np.uint32)
-    out = np.full(cells.shape, 77, NUMBERS[number])
-    answer = np.full(8, 99, np.uint64)
+    words = np.full(lines + 1 + 4 * lines * width, WORD, np.uint32)
+    out = np.full(cells.shape, PLACE, NUMBERS[number])
+    answer = np.full(8, FIGURE, np.uint64)
     kind = next(k for k, v in CELLS.items() if v == cells.dtype)
     call = getattr(lib, f"label_frame_{kind}_{number}")
     call.restype = ctypes.c_uint32
     size, at = ctypes.c_size_t, lambda a: ctypes.c_void_p(a.ctypes.data)
     returned = call(shape, size(cells.ndim), at(bytes_), size(bytes_.size), at(words), size(words.size), at(cells), size(cells.size),
                     at(out), size(out.size), size(blocks), at(answer), size(8))
-    return returned, [int(x) for x in answer[:3]], out
+    return returned, [int(x) for x in answer[:3]], out, (words == WORD).all() and (out == PLACE).all() and (answer == FIGURE).all()
 
 
 def scipys(cells, structure, number):
@@ -71,7 +83,7 @@ def scipys(cells, structure, number):
 
 
 def differs(lib, cells, structure, number, blocks):
-    returned, (n, runs, joins), out = ours(lib, cells, structure, number, blocks)
+    returned, (n, runs, joins), out, _ = ours(lib, cells, structure, number, blocks)
     theirs = scipys(cells, structure, number)
     if theirs is None:
         return None if returned == REFUSED else f"SciPy refuses, ours returns {returned}"
@@ -82,25 +94,45 @@ def differs(lib, cells, structure, number, blocks):
     return None if np.array_equal(out, theirs[1]) else "the numbers differ"
 
 
+def lopsided_differs(lib, cells, structure, number, blocks):
+    """Ours must return 12 and write nothing. SciPy must refuse the structure too, unless there is no cell: then it does not look at it."""
+    returned, _, _, stands = ours(lib, cells, structure, number, blocks)
+    try:
+        ndimage.label(cells, structure, NUMBERS[number])
+        said = "nothing"
+    except Exception as error:
+        said = str(error)
+    if said != ("Structuring element is not symmetric" if cells.size else "nothing"):
+        return f"of a lopsided structure SciPy says {said}"
+    return None if returned == LOPSIDED and stands else f"a lopsided structure: ours returns {returned}; all stands: {stands}"
+
+
 def main():
     lib = ctypes.CDLL(sys.argv[1])
     seed = int(sys.argv[2]) if len(sys.argv) > 2 else 1
     frames = int(sys.argv[3]) if len(sys.argv) > 3 else 30000
     r = np.random.default_rng(seed)
-    seen, differed = Counter(), 0
+    seen, lopsided, differed = Counter(), 0, 0
     for i in range(frames):
         rank = 1 + i % 4
         kind, number = list(CELLS)[i // 4 % 4], list(NUMBERS)[i // 16 % 3]
         shape, structure = shape_of(r, rank), structure_of(r, rank)
         cells = np.ascontiguousarray(cells_of(r, shape, kind))
         blocks = int(r.integers(0, int(np.prod(shape[:-1])) + 2))
-        why = differs(lib, cells, structure, number, blocks)
         seen.update([f"rank {rank}", f"cells {kind}", f"numbers {number}", "too narrow a kind" if scipys(cells, structure, number) is None else "numbered"])
-        if why:
-            differed += 1
-            if differed == 1:
-                print(f"the first difference: {why}\nshape {shape}, {kind} into {number}, {blocks} blocks\nstructure {structure.astype(int).tolist()}\ncells {cells.tolist()}")
+        tries = [(differs, structure)]
+        if r.integers(4) == 0:
+            tries.append((lopsided_differs, lopsided_of(r, structure)))
+            lopsided += 1
+        for tried, s in tries:
+            why = tried(lib, cells, s, number, blocks)
+            if why:
+                differed += 1
+                if differed == 1:
+                    print(f"the first difference: {why}\nshape {shape}, {kind} into {number}, {blocks} blocks")
+                    print(f"structure {s.tolist()}\ncells {cells.tolist()}")
     print(f"SciPy {scipy.__version__}, seed {seed}; {frames} frames: " + ", ".join(f"{k} {v}" for k, v in sorted(seen.items())))
+    print(f"{lopsided} tried for 12")
     print(f"{differed} differed")
     sys.exit(differed > 0)
 

@@ -8,7 +8,7 @@
 enum { W = 3, L = 3, WORDS = L + 1 + 4 * L * 2, RECORD = LABEL_RECORD_WORDS, ANSWER = LABEL_ANSWER_WORDS };
 
 static const size_t shape[2] = {L, W};
-static const uint8_t cross[9] = {0, 1, 0, 1, 1, 1, 0, 1, 0};
+static const uint8_t cross[9] = {0, 1, 0, 1, 1, 1, 0, 1, 0}, lopsided[9] = {0, 1, 0, 1, 1, 1, 0, 0, 0};
 static const uint8_t cells[L * W] = {1, 0, 1, 1, 0, 1, 1, 1, 1};
 
 static int checks, failures;
@@ -68,6 +68,9 @@ static void test_open(void)
     CHECK(label_open(NULL, 0, NULL, 0, s.words, WORDS, s.record, RECORD) == LABEL_RANK);
     CHECK(label_open(NULL, 0, NULL, 0, NULL, 0, NULL, 0) == LABEL_SHORT);
     CHECK(label_open(shape, 2, cross, 8, s.words, WORDS, s.record, RECORD) == LABEL_STRUCTURE_LENGTH);
+    CHECK(label_open(none, 2, lopsided, 8, s.words, WORDS, s.record, RECORD) == LABEL_STRUCTURE_LENGTH);
+    CHECK(label_open(none, 2, lopsided, 9, s.words, WORDS, s.record, RECORD) == LABEL_LOPSIDED);
+    CHECK(label_open(edge, 2, lopsided, 9, s.words, 0, s.record, RECORD) == LABEL_LOPSIDED);
     CHECK(label_open(none, 2, cross, 9, s.words, WORDS, s.record, RECORD) == LABEL_ZERO_DIMENSION);
     CHECK(label_open(edge, 2, cross, 9, s.words, WORDS, s.record, RECORD) == LABEL_TOO_LARGE);
     CHECK(label_open(below, 2, cross, 9, s.words, WORDS, s.record, RECORD) == LABEL_MEMORY);
@@ -75,6 +78,8 @@ static void test_open(void)
     CHECK(label_open(shape, 2, cross, 9, s.words, WORDS - 1, s.record, RECORD) == LABEL_MEMORY);
     CHECK(label_open(shape, 2, cross, 9, NULL, 0, s.record, RECORD) == LABEL_MEMORY);
     CHECK(same(&s, &before));
+    CHECK(label_open(dims, 4, ones, 81, s.words, WORDS, s.record, RECORD) == LABEL_OK);
+    ones[0] = 255;
     CHECK(label_open(dims, 4, ones, 81, s.words, WORDS, s.record, RECORD) == LABEL_OK);
     CHECK(open_session(&s) == LABEL_OK);
     CHECK(s.words[0] == 0 && memcmp(s.words + 1, before.words + 1, sizeof s.words - sizeof s.words[0]) == 0);
@@ -167,6 +172,13 @@ static void test_damage(void)
     CHECK(open_session(&s) == LABEL_OK);
     s.record[0] = 5;
     CHECK(feed(&s, 0, 0, 0) == LABEL_UNSOUND);
+    /* The record's words from 5 on are its structure: with one arm less it is lopsided, with another nonzero value it is not. */
+    CHECK(open_session(&s) == LABEL_OK);
+    s.record[5 + 7] = 0;
+    CHECK(feed(&s, 0, 0, 0) == LABEL_UNSOUND);
+    s.record[5 + 7] = 255;
+    CHECK(feed(&s, 0, 0, 0) == LABEL_OK);
+    s.record[0] = 5;
     /* 100 comes before 6. */
     CHECK(label_feed_u8(s.record, RECORD, s.words, WORDS, 0, NULL, 0, s.answer, ANSWER - 1) == LABEL_SHORT);
 }
@@ -192,6 +204,8 @@ static const float cellsf[L * W] = {1.0f, 0.0f, 0.5f, -2.0f, -0.0f, 1e-30f, 3.0f
         }                                                                                                            \
         CHECK(label_frame_##cell##_##number(shape, 2, cross, 9, s.words, WORDS, values, L * W, out, L * W, 1,        \
                                             s.answer, ANSWER - 1) == LABEL_SHORT);                                   \
+        CHECK(label_frame_##cell##_##number(shape, 2, lopsided, 9, s.words, 0, values, L * W - 1, out, L * W, 1,     \
+                                            s.answer, ANSWER) == LABEL_LOPSIDED);                                    \
         CHECK(label_frame_##cell##_##number(shape, 2, cross, 9, s.words, WORDS, values, L * W - 1, out, L * W, 1,    \
                                             s.answer, ANSWER) == LABEL_CELLS);                                       \
         CHECK(label_frame_##cell##_##number(shape, 2, cross, 9, s.words, WORDS, values, L * W, out, L * W - 1, 1,    \
@@ -257,7 +271,7 @@ static uint32_t opened_with(size_t lines, size_t width, int left, size_t count)
 
     dims[0] = lines;
     dims[1] = width;
-    structure[3] = left != 0;
+    structure[3] = structure[5] = left != 0;
     return label_open(dims, 2, structure, 9, words, count, record, RECORD);
 }
 

@@ -33,6 +33,7 @@ enum label_result {
     LABEL_CELLS = 8,             /* the cells are not k x width; of a whole frame, not lines x width */
     LABEL_LENGTH = 9,            /* the output has not lines x width places, or the sizes not n */
     LABEL_KIND = 10,             /* n is above the largest number that the output's kind holds */
+    LABEL_LOPSIDED = 12,         /* bytes i and 3^rank - 1 - i of the structure are not both zero or both nonzero, for some i */
     LABEL_SHORT = 100            /* the record has fewer than LABEL_RECORD_WORDS words, or the answer fewer than LABEL_ANSWER_WORDS */
 };
 
@@ -61,9 +62,9 @@ uint64_t label_record_words(void);
 
 /* Opens a session.
  * Takes the shape (its last dimension is the width, the product of the others the number of lines), the structure (3^rank bytes in C
- * order, of which only zero or nonzero matters) and the words of memory, which may hold anything.
+ * order, symmetric about the centre: only zero or nonzero matters) and the words of memory, which may hold anything.
  * Accepted: word 0 of `words` is written, and the first LABEL_RECORD_WORDS words of `record`.
- * Returns 0, 100, or 1 to 5; unless it is 0, nothing is written. */
+ * Returns 0, 100, 1, 2, 12, 3, 4 or 5, looked for in this order; unless it is 0, nothing is written. */
 uint32_t label_open(const size_t *shape, size_t rank,
                     const uint8_t *structure, size_t structure_bytes,
                     uint32_t *words, size_t word_count,
@@ -120,8 +121,8 @@ uint32_t label_sizes(const uint64_t *record, size_t record_words,
 /* Labels a whole frame: opens, feeds all lines and reads, without a record. `blocks` is in how many blocks the lines are taken, 0 as
  * 1; it changes no answer.
  * Accepted: the answer and `out` as of a reading; the words as those calls leave them.
- * Returns 0, 100, 1 to 5, 8, 9 or 10, looked for in this order. With 10 the words are as after feeding, and `out` and `answer` stand;
- * with any other number but 0 nothing is written. */
+ * Returns 0, 100, 1, 2, 12, 3, 4, 5, 8, 9 or 10, looked for in this order. With 10 the words are as after feeding, and `out` and `answer`
+ * stand; with any other number but 0 nothing is written. */
 uint32_t label_frame_u8_u8(const size_t *shape, size_t rank,
                            const uint8_t *structure, size_t structure_bytes,
                            uint32_t *words, size_t word_count,

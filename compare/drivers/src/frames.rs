@@ -22,35 +22,55 @@ pub fn size(shape: &[usize]) -> usize {
 /// Widths that a mask of 64 cells may get wrong.
 pub const WIDE: [usize; 9] = [62, 63, 64, 65, 66, 127, 128, 129, 192];
 
-/// A structure: none, all, the cross of SciPy, one byte, or sparse or dense random ones, symmetric or not. A byte that is set has any value.
+/// A symmetric structure: none, all, the cross of SciPy, one pair of bytes, or sparse or dense random ones, their left byte zero, set or as
+/// drawn. In half of them a byte that is set has any value, so that those of a pair differ.
 pub fn structure(r: &mut Random, rank: usize) -> Vec<u8> {
     let n = 3usize.pow(rank as u32);
+    let middle = n / 2;
     let percent = one_of(r, &[3, 10, 30, 60, 90]);
     let mut s = vec![0u8; n];
     match below(r, 12) {
         0 => {}
         1 => s = vec![1; n],
         2 => s = cross(rank),
-        3 => s[below(r, n)] = 1,
-        4 => s[below(r, n / 2)] = 1,
-        5..8 => {
-            for k in 0..=n / 2 {
-                s[k] = (r.next() % 100 < percent) as u8;
-                s[n - 1 - k] = s[k];
-            }
-        }
+        3 | 4 => s[below(r, middle + 1)] = 1,
         _ => {
-            for b in s.iter_mut() {
+            for b in s[..=middle].iter_mut() {
                 *b = (r.next() % 100 < percent) as u8;
             }
+            match below(r, 4) {
+                0 => s[middle - 1] = 0,
+                1 => s[middle - 1] = 1,
+                _ => {}
+            }
         }
+    }
+    for k in 0..middle {
+        s[n - 1 - k] = s[k];
     }
     if below(r, 2) == 0 {
         for b in s.iter_mut().filter(|b| **b != 0) {
-            *b = 1 + below(r, 255) as u8;
+            *b = nonzero(r);
         }
     }
     s
+}
+
+/// The value of a byte that is set.
+pub fn nonzero(r: &mut Random) -> u8 {
+    1 + below(r, 255) as u8
+}
+
+/// Each byte is zero where its mirror is, and nowhere else.
+pub fn symmetric(s: &[u8]) -> bool {
+    (0..s.len()).all(|i| (s[i] == 0) == (s[s.len() - 1 - i] == 0))
+}
+
+/// Makes a symmetric structure lopsided: one byte of a pair is set, or cleared.
+pub fn make_lopsided(r: &mut Random, s: &mut [u8]) {
+    let k = below(r, s.len() - 1);
+    let at = k + (k >= s.len() / 2) as usize;
+    s[at] = if s[at] == 0 { nonzero(r) } else { 0 };
 }
 
 /// SciPy's default: the offsets with at most one coordinate that is not 0.
@@ -126,7 +146,7 @@ impl<C: Cell> Frame<C> {
         Frame { shape, structure: self.structure.clone(), cells }
     }
 
-    /// Frames that are smaller by one thing: the last or the first index of a dimension, a cell, a structure byte.
+    /// Frames that are smaller by one thing: the last or the first index of a dimension, a cell, a structure byte with its mirror.
     pub fn smaller(&self) -> Vec<Frame<C>> {
         let last = self.shape.len() - 1;
         let mut all: Vec<Frame<C>> = Vec::new();
@@ -139,9 +159,11 @@ impl<C: Cell> Frame<C> {
             f.cells[i] = C::coded(b'0');
             all.push(f);
         }
-        for i in (0..self.structure.len()).filter(|&i| self.structure[i] != 0) {
+        let bytes = self.structure.len();
+        for i in (0..=bytes / 2).filter(|&i| self.structure[i] != 0) {
             let mut f = self.clone();
             f.structure[i] = 0;
+            f.structure[bytes - 1 - i] = 0;
             all.push(f);
         }
         all

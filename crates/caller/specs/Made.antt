@@ -15,7 +15,7 @@ use Rattle.caller.specs.Rooms.{Rooms, roomsAfter}
 
 -- the arguments at entry: shape, structure, words; what the list of calls decodes to; the rooms and the answers
 module _ (shape structure ws : List ℕ) (entries : List Entry) (rooms : Rooms) (answers : List ℕ) where
-  -- the opening's number: 1 to 5, or 0
+  -- the opening's number, or 0
   abbrev pub cause : ℕ
   cause = openCause shape structure (length ws)
 

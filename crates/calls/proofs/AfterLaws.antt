@@ -12,10 +12,13 @@ use Rattle.groups.specs.Groups.{count}
 use Rattle.groups.proofs.CountLaws.{count-same}
 use Rattle.groups.proofs.NumberLaws.{numbered-same}
 use Rattle.frame.specs.Shape.{size}
+use Rattle.frame.specs.Structure.{Symmetric}
 use Rattle.frame.specs.ChainRule.{Labelled, groupCount, label, range, labels, sizeOf, sizesOf}
 use Rattle.frame.specs.Kinds.{Number, largest, holds, Value, write, value}
 use Rattle.frame.specs.Plain.{Answer, counted, State, groupsOf, cause}
 use Rattle.frame.proofs.ChainRuleLaws.{label-only, length-range, length-labels, labels-right}
+use Rattle.frame.proofs.SymmetryLaws.{symmetric-test}
+use Rattle.frame.proofs.ScipyLaws.{same-labelled}
 use Rattle.frame.proofs.KindLaws.{value-write}
 use Rattle.frame.proofs.CauseLaws.{accepted-read, accepted-sizes}
 use Rattle.frame.proofs.PlainLaws.{unless-none, kept-new}
@@ -50,6 +53,10 @@ module _ (s : Session) (ws : List ℕ) (I : Inv s ws) where
   abbrev n : ℕ
   n = groupCount (shapeOf s) (structureOf s) (cellsOf s ws)
 
+  -- a sound record's structure is symmetric
+  symmetric : Symmetric (length shape) structure
+  symmetric = symmetric-test (length shape) structure .0 (I .is-sound .shape .not-lopsided)
+
   n-right : rootCount s ws ≡ n
   n-right = inv-n s ws I ∙ (unfold groupsOf in refl)
 
@@ -73,10 +80,8 @@ module _ (s : Session) (ws : List ℕ) (I : Inv s ws) where
         P .said ∙ unless-none (readCauseOf kind s ws (length out)) (countedOf s ws) no-cause
         ∙ ap (λ (m : ℕ). counted m (s .figures)) n-right;
     long = ap length wrote ∙ length-map (labels shape structure cells) (write kind) ∙ length-labels shape structure cells;
-    labelled = numbered-same (λ q. getD (labels shape structure cells) q 0) (λ q. value kind (getD out′ q (write kind 0)))
-        (λ q l. sym (ap (λ (o : List (Value kind)). value kind (getD o q (write kind 0))) wrote ∙ ap (value kind)
-        (List·getD-map (write kind) (labels shape structure cells) q 0) ∙ value-write kind (getD (labels shape structure cells) q 0)))
-        (labels-right shape structure cells);
+    labelled = numbered;
+    described = same-labelled shape structure symmetric cells n _ .1 numbered;
   }
     where
       no-cause : readCauseOf kind s ws (length out) ≡ 0
@@ -84,6 +89,12 @@ module _ (s : Session) (ws : List ℕ) (I : Inv s ws) where
 
       wrote : out′ ≡ map (write kind) (labels shape structure cells)
       wrote = P .output ∙ kept-new out (numbersHeld s ws kind) (readCauseOf kind s ws (length out)) no-cause ∙ inv-numbers s ws I kind
+
+      numbered : Labelled shape structure cells n (λ q. value kind (getD out′ q (write kind 0)))
+      numbered = numbered-same (λ q. getD (labels shape structure cells) q 0) (λ q. value kind (getD out′ q (write kind 0)))
+          (λ q l. sym (ap (λ (o : List (Value kind)). value kind (getD o q (write kind 0))) wrote ∙ ap (value kind)
+          (List·getD-map (write kind) (labels shape structure cells) q 0) ∙ value-write kind (getD (labels shape structure cells) q 0)))
+          (labels-right shape structure cells)
 
   long : length (sizesOf shape structure cells) ≡ n
   unfolding sizesOf

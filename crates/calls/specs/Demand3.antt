@@ -11,6 +11,7 @@ use lib.ListN.{length, getD}
 use Rattle.groups.specs.Groups.{Chain, count}
 use Rattle.frame.specs.Shape.{size, lines}
 use Rattle.frame.specs.ChainRule.{nonzero, Step, Labelled, groupCount}
+use Rattle.frame.specs.Scipy.{ScipyLabelled}
 use Rattle.frame.specs.Runs.{runs, runOf, SmallestRun}
 use Rattle.frame.specs.Kinds.{Number, largest, Value, write, value}
 use Rattle.frame.specs.declared.Figures.{Figures}
@@ -61,6 +62,8 @@ module _ (shape : List ℕ) where
       pub balanced : Balanced p figures
       pub long : length out′ ≡ size shape
       pub labelled : Labelled shape (p .structure) (p .cells) n (λ q. value kind (getD out′ q (write kind 0)))
+      -- demand 2's "SciPy's description of label settles what connected means": n and these numbers are those of that description
+      pub described : ScipyLabelled shape (p .structure) (p .cells) n (λ q. value kind (getD out′ q (write kind 0)))
 
     -- each number's size is its count of cells. The numbers are those of any reading: ν is right, and there is one such ν alone
     pub record Sizes (a : Answer) (out′ : List ℕ) : Type 0 where

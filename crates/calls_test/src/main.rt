@@ -13,7 +13,7 @@ use samples::tally;
 use trial::answers;
 use trial::answers::Answer;
 
-// Entries of the counts: lists stand at TRIED, and then calls; what is no call follows the refusals.
+// Entries of the counts: lists stand at TRIED, and then calls; what is no call stands where refusal 11 would, which is of a text.
 const CALLS: usize = 4;
 
 const NO_CALLS: usize = 35;
@@ -276,13 +276,28 @@ fn make_alike(
 
 // ---- one list
 
-// Opened with too few words nothing is answered, and the plain session is not asked.
-fn try_calls(shape: &[usize], structure: &[u8], cells: &[u8; 640], x: u64, state: &mut [u64; 40]) {
+// Some lists are opened with too few words, some with a lopsided structure.
+fn opening_cause(x: u64) -> usize {
+    match x % 16 {
+        0 => 5,
+        1 => 12,
+        _ => 0,
+    }
+}
+
+// Where the opening is refused nothing is answered, and the plain session is not asked.
+fn try_calls(
+    shape: &[usize],
+    structure: &[u8],
+    cells: &[u8; 640],
+    cause: usize,
+    x: u64,
+    state: &mut [u64; 40],
+) {
     let mut list = [0usize; 256];
     let mut wanted = [77u64; 16384];
     let e = flood::extent_of(shape, structure);
-    let short = (x % 16 == 0) as usize;
-    let asked = (short == 0) as usize;
+    let asked = (cause == 0) as usize;
     let count = plus(below(next(x), 31), 30);
     let rest = below(x / 16, 4);
     let said = all_calls(
@@ -296,8 +311,8 @@ fn try_calls(shape: &[usize], structure: &[u8], cells: &[u8; 640], x: u64, state
     );
     let places = say_rest(times(rest, asked), said, &mut wanted, state);
     let used = plus(times(4, count), rest);
+    let short = (cause == 5) as usize;
     let memory = flood::less(flood::layout::words_needed(e), short);
-    let cause = times(5, short);
     let agreed = make_alike(
         shape,
         structure,
@@ -312,6 +327,28 @@ fn try_calls(shape: &[usize], structure: &[u8], cells: &[u8; 640], x: u64, state
     tally::count(state, tally::TRIED, cause, agreed);
 }
 
+// A structure is made lopsided where the opening is to be refused for it.
+fn opened_structure(structure: [u8; 81], count: usize, cause: usize, x: u64) -> [u8; 81] {
+    if cause == 12 {
+        return samples::lopsided(structure, count, next(x));
+    }
+    structure
+}
+
+fn try_frame(
+    shape: samples::Shape,
+    structure: [u8; 81],
+    cells: &[u8; 640],
+    x: u64,
+    state: &mut [u64; 40],
+) {
+    let cause = opening_cause(x);
+    let count = samples::power3(shape.rank);
+    let bytes = opened_structure(structure, count, cause, x);
+    let used = samples::first_sizes(&shape.entries, shape.rank);
+    try_calls(used, samples::first(&bytes, count), cells, cause, x, state);
+}
+
 // Some frames have more than 255 groups: a structure of zeros, and 600 cells.
 fn try_list(state: &mut [u64; 40]) {
     let mut structure = [0u8; 81];
@@ -319,12 +356,14 @@ fn try_list(state: &mut [u64; 40]) {
     let shape = samples::random_frame(state, &mut structure, &mut cells);
     let x = tally::random(state);
     if x / 256 % 12 == 0 {
-        try_calls(&[4, 150], &[0; 9], &cells, x, state);
+        let many = samples::Shape {
+            rank: 2,
+            entries: [4, 150, 0, 0],
+        };
+        try_frame(many, [0; 81], &cells, x, state);
         return;
     }
-    let used = samples::first_sizes(&shape.entries, shape.rank);
-    let bytes = samples::first(&structure, samples::power3(shape.rank));
-    try_calls(used, bytes, &cells, x, state);
+    try_frame(shape, structure, &cells, x, state);
 }
 
 fn try_lists(state: &mut [u64; 40]) {
@@ -341,6 +380,7 @@ fn report(state: &[u64; 40]) {
         b"refused 5: #\nrefused 6: #\nrefused 7: #\nrefused 8: #\nrefused 9: #\nrefused 10: #\nno calls: #\n",
         29,
     );
+    tally::report(state, b"refused 12: #\n", tally::REFUSED_12);
     tally::report(state, b"differed=#\n", tally::DIFFERED);
 }
 

@@ -14,7 +14,7 @@ use Rattle.frame.specs.Lists.{padded}
 use Rattle.frame.specs.Causes.{Test, when, firstCause, openTests, openCause, frameTests, frameCause}
 use Rattle.frame.proofs.EntryLaws.{entries-padded}
 use Rattle.frame.proofs.ShapeLaws.{size-lines}
-use Rattle.frame.proofs.CauseLaws.{NoneHolds, accepted, open-real, Allowed, open-accepted}
+use Rattle.frame.proofs.CauseLaws.{accepted, first-none, open-real, Allowed, open-accepted}
 use Rattle.geo.specs.declared.Geo.{Geo}
 use Rattle.geo.specs.Geometry.{GeoOf}
 use Rattle.geo.proofs.GeoLaws.{within-limits}
@@ -35,12 +35,6 @@ first-some (t ∷ ts) us n h e = go (t .holds) e (first-some ts us n h)
         → n ≡ cond b (t .number) (firstCause (ts ++ us))
     go true e i = e
     go false e i = i e
-
--- where none of the first holds, the others decide
-first-none : (ts us : List Test) → NoneHolds ts → firstCause (ts ++ us) ≡ firstCause us
-unfolding firstCause
-first-none [] us h = refl
-first-none (t ∷ ts) us h = rw (h .0) (first-none ts us (h .1))
 
 -- ---- a whole frame's
 

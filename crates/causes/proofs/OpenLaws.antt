@@ -12,7 +12,7 @@ use lib.ListN.{length}
 use Rattle.frame.specs.Lists.{entries, padded}
 use Rattle.frame.specs.Shape.{leading}
 use Rattle.frame.specs.Memory.{wordsNeeded}
-use Rattle.frame.specs.Causes.{badRank, hasZero, tooLarge, firstCause, openTests, openCause}
+use Rattle.frame.specs.Causes.{badRank, hasZero, tooLarge, lopsided, firstCause, openTests, openCause}
 use Rattle.frame.proofs.EntryLaws.{entries-all, entries-padded}
 use Rattle.geo.specs.declared.Geo.{Geo}
 use Rattle.geo.specs.Geometry.{ShapeReady, Measured, GeoOf, WithinLimits, largeGeo, wordsOf}
@@ -41,15 +41,20 @@ module _ (shape structure : List ℕ) (memory : ℕ) where
     unfolding openCause openTests firstCause
     open-gets-2 ne = rw (ranked, ne-eqb (length structure) (3 ^ length shape) ne) refl
 
-    -- the shape as an array, of which the first entries count
     module _ (bytes : length structure ≡ 3 ^ length shape) where
+      pub open-gets-12 : lopsided (length shape) structure ≡ true → 12 ≡ openCause shape structure memory
+      unfolding openCause openTests firstCause
+      open-gets-12 l = rw (ranked, eq-eqb (length structure) (3 ^ length shape) bytes, l) refl
+
+      -- the shape as an array, of which the first entries count
       shape-is : entries (length shape) (padded 4 shape) ≡ shape
       shape-is = entries-padded 4 shape
 
       pub open-ready : ShapeReady (length shape) (padded 4 shape) structure
       open-ready = record { ranked = ap badRank shape-is ∙ ranked; bytes = omega (arith, bytes) }
 
-      module _ (g : Geo) (G : Measured (length shape) (padded 4 shape) structure g) where
+      module _ (alike : lopsided (length shape) structure ≡ false) (g : Geo)
+          (G : Measured (length shape) (padded 4 shape) structure g) where
         zero-is : hasZero (g .dims) ≡ hasZero (leading shape)
         zero-is =
             measured-zero (length shape) (padded 4 shape) structure (open-ready .ranked) g G
@@ -60,12 +65,18 @@ module _ (shape structure : List ℕ) (memory : ℕ) where
 
         pub open-gets-3 : hasZero (g .dims) ≡ true → 3 ≡ openCause shape structure memory
         unfolding openCause openTests firstCause
-        open-gets-3 z = rw (ranked, eq-eqb (length structure) (3 ^ length shape) bytes, sym zero-is ∙ z) refl
+        open-gets-3 z = rw (ranked, eq-eqb (length structure) (3 ^ length shape) bytes, alike, sym zero-is ∙ z) refl
 
         module _ (no-zero : hasZero (g .dims) ≡ false) where
           pub open-gets-4 : largeGeo g ≡ true → 4 ≡ openCause shape structure memory
           unfolding openCause openTests firstCause
-          open-gets-4 l = rw (ranked, eq-eqb (length structure) (3 ^ length shape) bytes, sym zero-is ∙ no-zero, sym large-is ∙ l) refl
+          open-gets-4 l = rw (
+            ranked,
+            eq-eqb (length structure) (3 ^ length shape) bytes,
+            alike,
+            sym zero-is ∙ no-zero,
+            sym large-is ∙ l,
+          ) refl
 
           module _ (fits : largeGeo g ≡ false) where
             limits : tooLarge shape ≡ false
@@ -88,6 +99,7 @@ module _ (shape structure : List ℕ) (memory : ℕ) where
               open-gets-5 h = rw (
                 ranked,
                 eq-eqb (length structure) (3 ^ length shape) bytes,
+                alike,
                 sym zero-is ∙ no-zero,
                 limits,
                 lt-ltb memory (wordsNeeded shape structure) (rw (← needs) h),
@@ -98,6 +110,7 @@ module _ (shape structure : List ℕ) (memory : ℕ) where
               open-gets-none h = rw (
                 ranked,
                 eq-eqb (length structure) (3 ^ length shape) bytes,
+                alike,
                 sym zero-is ∙ no-zero,
                 limits,
                 le-ltb memory (wordsNeeded shape structure) (rw (← needs) h),

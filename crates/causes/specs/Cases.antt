@@ -1,4 +1,4 @@
--- Document 01's number for each cause, and for what a check finds.
+-- The documents' number for each cause, and for what a check finds.
 -- Assumes nothing.
 use Prim.Native.Nat.{ℕ}
 use Rattle.causes.specs.declared.Cause.{Cause}
@@ -17,6 +17,7 @@ causeNumber C.Lines = 7
 causeNumber C.Cells = 8
 causeNumber C.Length = 9
 causeNumber C.Kind = 10
+causeNumber C.Lopsided = 12
 
 -- 0 where a check passes
 abbrev pub checkNumber : Check → ℕ

@@ -1,10 +1,10 @@
 // Why a call is refused, and the checks that find it, before anything is written.
 //
-//     Cause                                  the causes, with document 01's numbers
+//     Cause                                  the causes, with the documents' numbers
 //     open_check, frame_check                an opening's, and what is known of a whole frame's
 //     feed_check, read_check, sizes_check    those of a call on a record that is known to be sound
 //
-// Promised (specs/Checks.antt): the number is that of the first cause that holds, in document 01's order, or none. A check that works out
+// Promised (specs/Checks.antt): the number is that of the first cause that holds, in the documents' order, or none. A check that works out
 // the geometry hands it on, so that it is worked out once.
 ghost use mathlib.Core.Path.{_≡_};
 ghost use mathlib.Core.Bool.{true};
@@ -15,7 +15,7 @@ ghost use Rattle.frame.specs.Kinds.{Number, largest, holds};
 ghost use Rattle.causes.specs.Cases.{causeNumber, checkNumber};
 ghost use Rattle.causes.specs.Checks.{LentFound, FeedAsked};
 
-// In the order of document 01's table.
+// In the order of document 01's table, then document 02's.
 pub enum Cause {
     // rank 0 or above 4
     Rank,
@@ -37,10 +37,12 @@ pub enum Cause {
     Length,
     // n above the kind's largest
     Kind,
+    // byte i and byte 3^rank - 1 - i of a structure are not both zero or both nonzero
+    Lopsided,
 }
 
 impl Cause {
-    // Document 01's number.
+    // The documents' number.
     pub fn number(self) -> u32
         ensures { λ r. ⌜ r ≡ causeNumber self ⌝ }
     {
@@ -55,6 +57,7 @@ impl Cause {
             Cause::Cells => 8,
             Cause::Length => 9,
             Cause::Kind => 10,
+            Cause::Lopsided => 12,
         }
     }
 }
@@ -102,7 +105,7 @@ pub fn refused(cause: Cause) -> Checked
 
 // ---- of a lent shape and structure. `memory` is the count of words
 
-// 1 to 5.
+// 1, 2, 12, 3, 4, 5.
 pub fn open_check(shape: &[usize], structure: &[u8], memory: usize) -> Checked
     ensures { λ r. ⌜ LentFound (now (shape .entry)) (now (structure .entry))
         (openCause (now (shape .entry)) (now (structure .entry)) memory) r ⌝ }
@@ -113,6 +116,9 @@ pub fn open_check(shape: &[usize], structure: &[u8], memory: usize) -> Checked
     }
     if structure.len() != geo::power3(rank) {
         return refused(Cause::StructureLength);
+    }
+    if geo::lopsided(rank, structure) {
+        return refused(Cause::Lopsided);
     }
     let g = geo::geo_of(rank, geo::shape_of(shape), structure);
     if geo::has_zero(g) {
@@ -127,7 +133,7 @@ pub fn open_check(shape: &[usize], structure: &[u8], memory: usize) -> Checked
     passed(g)
 }
 
-// 1 to 5, 8, 9, where `cells` and `out` are the counts of cells and of output places.
+// An opening's, then 8 and 9, where `cells` and `out` are the counts of cells and of output places.
 pub fn frame_check(
     shape: &[usize],
     structure: &[u8],

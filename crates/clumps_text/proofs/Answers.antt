@@ -8,8 +8,9 @@ use Rattle.groups.specs.Groups.{merge, rep, isRoot, count, groups, gather, pair
 use Rattle.groups.specs.Numbers.{number}
 use Rattle.frame.specs.Shape.{size, width, leading, coords}
 use Rattle.frame.specs.Structure.{offset, backward, on, leftOn}
-use Rattle.frame.specs.ChainRule.{nonzero, sameList, any, leadsBy, step, edges, groupCount, label, range, labels}
+use Rattle.frame.specs.ChainRule.{nonzero, sameList, any, leadsBy, edgesBy, edges, groupCount, label, range, labels}
 use Rattle.frame.specs.Runs.{goesOn, beginsRun, runs}
+use Rattle.frame.specs.Causes.{unlike, lopsided}
 use Rattle.frame.specs.declared.Figures.{Figures}
 use Rattle.frame.specs.Plain.{feeds, groupsOf, figures}
 use Rattle.clumps_text.specs.Text.{line, digits, decimal, blankBefore, decimals, flagCharacter, widthName, linesName, structureName}
@@ -20,10 +21,10 @@ use Rattle.clumps_text.specs.Output.{structureBytes, refusalText, labell
 -- what the computation of an output opens
 computed : Unit {0}
 unfolding merge rep isRoot count groups gather pairs number size width leading coords offset backward on leftOn nonzero sameList any
-    leadsBy step edges groupCount label range labels goesOn beginsRun runs feeds groupsOf figures zipWith digits decimal blankBefore
-    decimals flagCharacter widthName linesName structureName cellsName runsName joinsName objectsName labelsName refusedName andThen
-    parseExactly digitsValue parseNumber parseFlags flagsGiven lastLines parse structureBytes refusalText labelledText outputTo printed
-    clumpsOf
+    leadsBy edgesBy edges groupCount label range labels goesOn beginsRun runs unlike lopsided feeds groupsOf figures zipWith digits
+    decimal blankBefore decimals flagCharacter widthName linesName structureName cellsName runsName joinsName objectsName labelsName
+    refusedName andThen parseExactly digitsValue parseNumber parseFlags flagsGiven lastLines parse structureBytes refusalText labelledText
+    outputTo printed clumpsOf
 computed = tt
 
 -- ---- document 01's example, byte by byte
@@ -87,7 +88,16 @@ twelve-right : clumpsOf (text (c 2 23) (c 1 1) [] (c 23 10101010101010101010101)
 unfolding text characters computed
 twelve-right = refl
 
--- ---- texts that are refused by 11
+-- ---- texts that are refused
+
+-- refused=12: a structure with one arm missing, and one that has one alone. 11 comes first, here for a cell too few
+twelve : List ℕ
+twelve = 114 ∷ 101 ∷ 102 ∷ 117 ∷ 115 ∷ 101 ∷ 100 ∷ 61 ∷ 49 ∷ 50 ∷ 10 ∷ []
+
+lopsided-right : map clumpsOf (text (c 1 2) (c 1 2) (c 9 10111000) (c 4 1001) [] ∷ text (c 1 2) (c 1 2) (c 9 1) (c 4 1001) []
+    ∷ text (c 1 2) (c 1 2) (c 9 1) (c 3 100) [] ∷ []) ≡ twelve ∷ twelve ∷ refusalText 11 ∷ []
+unfolding twelve text characters computed
+lopsided-right = refl
 
 refusedTexts : List (List ℕ)
 refusedTexts =

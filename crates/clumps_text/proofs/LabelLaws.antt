@@ -1,7 +1,7 @@
--- Frames of the sizes that a text can say are labelled: no cause of a refusal holds, and what is promised then is what is printed.
+-- Frames of the sizes that a text can say are labelled: no cause of a refusal but 12 holds, and what is promised then is what is printed.
 -- Assumes nothing.
-use mathlib.Core.Path.{_≡_, sym, ap, _∙_}
-use mathlib.Core.Bool.{Bool, true, false, _&&_}
+use mathlib.Core.Path.{_≡_, refl, sym, ap, _∙_}
+use mathlib.Core.Bool.{Bool, true, false, cond, _&&_}
 use mathlib.Core.List.{List, [], _∷_, map, map-id}
 use Prim.Native.Nat.{ℕ, _*_, _≤_}
 use native.Mathlib.Nat.{mul-le-mul, mul-one, mul-assoc, le-trans}
@@ -16,10 +16,15 @@ use Rattle.frame.specs.Structure.{leftOn}
 use Rattle.frame.specs.ChainRule.{nonzero, edges, groupCount, labels}
 use Rattle.frame.specs.Kinds.{nz, u16, largest, holds, write}
 use Rattle.frame.specs.Memory.{mostRuns, perLine, wordsNeeded}
-use Rattle.frame.specs.Causes.{badRank, hasZero, tooLarge, firstCause, openTests, frameTests, frameCause}
-use Rattle.frame.specs.Plain.{Answer, counted, unless, kept, feeds, groupsOf, figures}
+use Rattle.frame.specs.Causes.{badRank, hasZero, tooLarge, lopsided, firstCause, openTests, frameTests, frameCause}
+use Rattle.frame.specs.Plain.{Answer, counted, refused, unless, kept, feeds, groupsOf, figures}
 use Rattle.label.specs.WholeFrame.{frameCauseOf, FramePromise, allFed}
 use Rattle.clumps_text.specs.Steps.{LabelReady, Labels}
+
+unless-12 : (b : Bool) (a : Answer) → unless (cond b 12 0) a ≡ cond b (refused 12) a
+unfolding unless
+unless-12 true a = refl
+unless-12 false a = refl
 
 -- no frame has more groups than cells
 pub groups-most : (shape structure : List ℕ) (cells : List Bool) → groupCount shape structure cells ≤ size shape
@@ -66,10 +71,13 @@ module _ {w l : ℕ} {structure cells numbers : List ℕ} (r : LabelReady w l st
   unfolding holds largest
   fits n h = le-leb n 65535 (omega (arith, all-cells, most-cells))
 
-  no-cause : (memory c o n : ℕ) → memory ≡ 9265 → c ≡ l * w → o ≡ l * w → n ≤ size shape
-      → frameCause shape structure memory c o (holds u16 n) ≡ 0
+  abbrev uneven : Bool
+  uneven = lopsided 2 structure
+
+  only-12 : (memory c o n : ℕ) → memory ≡ 9265 → c ≡ l * w → o ≡ l * w → n ≤ size shape
+      → frameCause shape structure memory c o (holds u16 n) ≡ cond uneven 12 0
   unfolding frameCause frameTests openTests firstCause badRank
-  no-cause memory c o n m x y h =
+  only-12 memory c o n m x y h =
       let s : eqb (length structure) 9 ≡ true = eq-eqb (length structure) 9 (r .nine) in
       let e : ltb memory (wordsNeeded shape structure) ≡ false = le-ltb memory (wordsNeeded shape structure) (omega (arith, enough)) in
       let p : eqb c (size shape) ≡ true = eq-eqb c (size shape) (x ∙ sym all-cells) in
@@ -83,14 +91,13 @@ module _ {w l : ℕ} {structure cells numbers : List ℕ} (r : LabelReady w l st
       → FramePromise u16 shape structure words bs numbers a words′ numbers′ → Labels shape structure bs a numbers′
   unfolding frameCauseOf groupsOf figures feeds unless kept
   labels-done words m p =
-      let z : frameCauseOf u16 shape structure words bs numbers ≡ 0 = no-cause (length words) (length bs) (length numbers)
+      let z : frameCauseOf u16 shape structure words bs numbers ≡ cond uneven 12 0 = only-12 (length words) (length bs) (length numbers)
       (groupCount shape structure bs) m (length-map cells nz ∙ r .bytes) (r .places) (groups-most shape structure bs) in
+      let done = counted (groupsOf shape (allFed shape structure bs)) (figures shape (allFed shape structure bs)) in
       record {
-        said =
-            p .said
-            ∙ ap (λ (k : ℕ). unless k (counted (groupsOf shape (allFed shape structure bs))
-            (figures shape (allFed shape structure bs)))) z;
+        said = p .said ∙ ap (λ (k : ℕ). unless k done) z ∙ unless-12 uneven done;
         labelled =
-            p .output
-            ∙ (ap (λ (k : ℕ). kept k numbers (map (write u16) (labels shape structure bs))) z ∙ map-id (labels shape structure bs));
+            λ e. p .output
+            ∙ ap (λ (k : ℕ). kept k numbers (map (write u16) (labels shape structure bs))) (z ∙ ap (λ (b : Bool). cond b 12 0) e)
+            ∙ map-id (labels shape structure bs);
       }

@@ -3,7 +3,7 @@
 -- Assumes nothing.
 use mathlib.Core.Path.{_≡_, refl, ap, subst}
 use mathlib.Core.Logic.{_⊎_, inl, inr}
-use mathlib.Core.Bool.{Bool, true, false}
+use mathlib.Core.Bool.{Bool, true, false, cond}
 use mathlib.Core.List.{List, [], _∷_, map}
 use Prim.Native.Nat.{ℕ, suc, _*_, _/_, _≤_, _<_}
 use native.Mathlib.Nat.{le-trans}
@@ -14,6 +14,7 @@ use lib.ListN.{length, getD, length-append, length-map}
 use Rattle.groups.proofs.CountLaws.{count-most}
 use Rattle.frame.specs.Shape.{size}
 use Rattle.frame.specs.ChainRule.{nonzero, groupCount, labels}
+use Rattle.frame.specs.Causes.{lopsided}
 use Rattle.frame.specs.Runs.{beginsRun, runs}
 use Rattle.frame.specs.declared.Figures.{Figures}
 use Rattle.frame.specs.Plain.{feeds, groupsOf, figures}
@@ -70,10 +71,10 @@ decimals-most (n ∷ ns) h m =
 
 -- ---- outputs
 
-refusal-text-most : length (refusalText 11) ≤ 11561
+refusal-text-most : (cause : ℕ) → cause < 100 → length (refusalText cause) ≤ 11561
 unfolding refusalText refusedName
-refusal-text-most =
-    let t = two-digits 11 (omega arith) in
+refusal-text-most cause h =
+    let t = two-digits cause h in
     simp length-append (omega arith)
 
 labelled-text-most : (n : ℕ) (f : Figures) (ns : List ℕ) → f .runs < 10000 → f .joins < 10000 → n < 10000 → Small ns → length ns ≤ 2304
@@ -85,6 +86,10 @@ labelled-text-most n f ns a b c s m =
     let z = four-digits n c in
     let w = decimals-most ns s m in
     simp length-append (omega arith)
+
+either-most : (b : Bool) (xs ys : List ℕ) → length xs ≤ 11561 → length ys ≤ 11561 → length (cond b xs ys) ≤ 11561
+either-most true xs ys h k = h
+either-most false xs ys h k = k
 
 module _ (f : TextFrame) (a : Accepted f) where
   cells-most : size (frameShape f) ≤ 2304
@@ -113,7 +118,8 @@ module _ (f : TextFrame) (a : Accepted f) where
   unfolding outputTo figures groupsOf feeds
   accepted-most =
       let long = length-labels (frameShape f) (frameStructure f) (f .cells) in
-      labelled-text-most _ _ _ runs-small (omega (arith, runs-small)) count-small labels-small (omega (arith, long, cells-most))
+      either-most (lopsided 2 (frameStructure f)) _ _ (refusal-text-most 12 (omega arith))
+      (labelled-text-most _ _ _ runs-small (omega (arith, runs-small)) count-small labels-small (omega (arith, long, cells-most)))
 
 pub output-most : (text : List ℕ) → length (clumpsOf text) ≤ 11561
 unfolding clumpsOf printed
@@ -121,8 +127,8 @@ output-most text = go (parse text) refl
   where
     go : (x : Parsed TextFrame) → parse text ≡ x → length (printed x) ≤ 11561
     go (parsed f []) e = accepted-most f (parse-back text f [] e .accepted)
-    go (parsed f (b ∷ rest)) e = refusal-text-most
-    go bad e = refusal-text-most
+    go (parsed f (b ∷ rest)) e = refusal-text-most 11 (omega arith)
+    go bad e = refusal-text-most 11 (omega arith)
 
 -- ---- inputs
 

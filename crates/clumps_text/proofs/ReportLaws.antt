@@ -1,15 +1,17 @@
--- What was read decides what is printed: the whole text accepted with its frame's answer, or refused by 11.
+-- What was read decides what is printed: its frame's answer, of a text that is wholly of the form, or refusal 11.
 -- Assumes nothing.
 use mathlib.Core.Path.{_≡_, refl, sym, ap, _∙_, subst}
-use mathlib.Core.Bool.{Bool, true, false}
+use mathlib.Core.Bool.{Bool, true, false, cond}
 use mathlib.Core.List.{List, [], _∷_, _++_, map}
 use Prim.Native.Nat.{ℕ, _*_, _≤_}
 use native.Mathlib.Omega.{arith}
 use lib.ListN.{length, take, drop, length-append}
 use lib.Seq.{length-take-le, take-at}
-use Rattle.frame.specs.ChainRule.{groupCount}
+use Rattle.frame.specs.ChainRule.{groupCount, labels}
 use Rattle.frame.specs.Kinds.{nz}
-use Rattle.frame.specs.Plain.{Answer, figures}
+use Rattle.frame.specs.Causes.{lopsided}
+use Rattle.frame.specs.declared.Figures.{Figures}
+use Rattle.frame.specs.Plain.{Answer, counted, refused, figures}
 use Rattle.label.specs.WholeFrame.{allFed}
 use Rattle.clumps_text.specs.declared.Place.{Place}
 use Rattle.clumps_text.specs.declared.Place.the-variants.{At, Nowhere}
@@ -55,11 +57,19 @@ pub labels-printed : {shape structure : List ℕ} {cells : List Bool} {a : Answe
     (answerText a numbers) ys out at → Holds (outputTo shape structure cells) ys out at
 unfolding outputTo
 labels-printed {shape} {structure} {cells} {a} numbers {ys} {out} {at} e l p =
-    let f = figures shape (allFed shape structure cells) in
-    let n = groupCount shape structure cells in
-    let x : answerText a numbers ≡ outputTo shape structure cells = ap (λ (b : Answer). answerText b numbers) (l .said)
-    ∙ ap (labelledText n f) (e ∙ l .labelled) in
-    subst (λ (t : List ℕ). Holds t ys out at) x p
+    subst (λ (t : List ℕ). Holds t ys out at)
+    (ap (λ (b : Answer). answerText b numbers) (l .said) ∙ go (lopsided (length shape) structure) (λ h. e ∙ l .labelled h)) p
+  where
+    f : Figures
+    f = figures shape (allFed shape structure cells)
+
+    n : ℕ
+    n = groupCount shape structure cells
+
+    go : (b : Bool) → (b ≡ false → numbers ≡ labels shape structure cells)
+        → answerText (cond b (refused 12) (counted n f)) numbers ≡ cond b (refusalText 12) (labelledText n f (labels shape structure cells))
+    go true h = refl
+    go false h = ap (labelledText n f) (h refl)
 
 -- ---- flags and bytes
 

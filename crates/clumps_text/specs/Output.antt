@@ -1,9 +1,11 @@
--- The program's output for each input: the figures and labels of the frame by crate frame's definitions, or refusal 11.
+-- The program's output for each input: the figures and labels of the frame by crate frame's definitions, or refusal 11 or 12.
 -- Assumes nothing.
 use mathlib.Core.Bool.{Bool, cond}
 use mathlib.Core.List.{List, [], _∷_, map}
 use Prim.Native.Nat.{ℕ}
+use lib.ListN.{length}
 use Rattle.frame.specs.ChainRule.{groupCount, labels}
+use Rattle.frame.specs.Causes.{lopsided}
 use Rattle.frame.specs.declared.Figures.{Figures}
 use Rattle.frame.specs.Plain.{figures}
 use Rattle.label.specs.WholeFrame.{allFed}
@@ -39,10 +41,11 @@ labelledText n f labels =
     line runsName (decimal (f .runs))
     (line joinsName (decimal (f .joins)) (line objectsName (decimal n) (line labelsName (decimals labels) [])))
 
--- objects is n, and the figures are those of all lines fed
+-- a lopsided structure is refused by 12. Else objects is n, and the figures are those of all lines fed
 unfoldable pub outputTo : List ℕ → List ℕ → List Bool → List ℕ
 outputTo shape structure cells =
-    labelledText (groupCount shape structure cells) (figures shape (allFed shape structure cells)) (labels shape structure cells)
+    cond (lopsided (length shape) structure) (refusalText 12)
+    (labelledText (groupCount shape structure cells) (figures shape (allFed shape structure cells)) (labels shape structure cells))
 
 abbrev pub outputOf : TextFrame → List ℕ
 outputOf f = outputTo (frameShape f) (frameStructure f) (f .cells)

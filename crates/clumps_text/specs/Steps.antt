@@ -1,11 +1,12 @@
 -- What the functions that read and print promise each other. What is printed is added to a slice: frame's Overlay.
 -- Assumes nothing.
 use mathlib.Core.Path.{_≡_}
-use mathlib.Core.Bool.{Bool, true, false}
+use mathlib.Core.Bool.{Bool, true, false, cond}
 use mathlib.Core.List.{List, [], _∷_, map}
 use Prim.Native.Nat.{ℕ, _*_, _≤_}
 use lib.ListN.{length, take, drop}
 use Rattle.frame.specs.ChainRule.{groupCount, labels}
+use Rattle.frame.specs.Causes.{lopsided}
 use Rattle.frame.specs.Plain.{Answer, fed, counted, refused, figures}
 use Rattle.label.specs.WholeFrame.{allFed}
 use Rattle.clumps_text.specs.declared.Place.{Place}
@@ -83,10 +84,11 @@ pub record LabelReady (width lines : ℕ) (structure cells numbers : List ℕ) (
   pub bytes : length cells ≡ n
   pub places : length numbers ≡ n
 
--- accepted, with the figures and labels of crate frame's definitions
+-- refused by 12 where the structure is lopsided; else accepted, with the figures and labels of crate frame's definitions
 pub record Labels (shape structure : List ℕ) (cells : List Bool) (a : Answer) (numbers : List ℕ) : Type 0 where
-  pub said : a ≡ counted (groupCount shape structure cells) (figures shape (allFed shape structure cells))
-  pub labelled : numbers ≡ labels shape structure cells
+  pub said : a ≡ cond (lopsided (length shape) structure) (refused 12)
+      (counted (groupCount shape structure cells) (figures shape (allFed shape structure cells)))
+  pub labelled : lopsided (length shape) structure ≡ false → numbers ≡ labels shape structure cells
 
 -- what an answer prints, with the numbers of an accepted one. A feed's is printed nowhere
 abbrev pub answerText : Answer → List ℕ → List ℕ

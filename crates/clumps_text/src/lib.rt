@@ -1,7 +1,7 @@
 // The program clumps as a function from bytes to bytes: `report` reads document 01's four lines, labels the frame and prints the answer.
 //
 // Promised (specs/Output.antt): whatever the input, the output is `clumpsOf` of it, as far as the slice reaches. A text of any other form
-// than specs/Input.antt's is refused by 11; no other refusal can come.
+// than specs/Input.antt's is refused by 11, and a lopsided structure by 12; no other refusal can come.
 ghost use mathlib.Core.Path.{_≡_};
 ghost use mathlib.Core.List.{[], _∷_, _++_, map};
 ghost use Prim.Native.Nat.{_-_, _*_, _≤_, min};
@@ -308,7 +308,7 @@ fn put_refusal(out: &mut [u8], cause: usize) -> usize
 
 // ---- labelling
 
-// Labels a frame in one call. 49 + 4 × 48 × 48 words are enough for each that a text can say, so it is accepted.
+// Labels a frame in one call. 49 + 4 × 48 × 48 words are enough for each that a text can say, so it is accepted, or refused by 12.
 fn label_into(
     width: usize,
     lines: usize,

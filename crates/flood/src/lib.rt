@@ -179,13 +179,10 @@ fn neighbour(e: Extent, cell: usize, o: Offset) -> usize {
     moved(x2, part(cell, e.width), o.t3, e.width)
 }
 
-// The cell that a step by a structure's entry, whose offset is given, leads to, or NONE. Only the backward half counts, and each of its
-// offsets is taken either way: the entry as far behind the middle one is the same offset the other way.
+// The cell that a step by a structure's entry, whose offset is given, leads to, or NONE: any entry but the middle one that is nonzero, as
+// SciPy describes it.
 fn step_to(e: Extent, structure: &[u8], cell: usize, entry: usize, o: Offset) -> usize {
-    let middle = structure.len() / 2;
-    let mirrored = less(less(structure.len(), 1), entry);
-    let backward = if entry < middle { entry } else { mirrored };
-    if (entry == middle) | (byte(structure, backward) == 0) {
+    if (entry == structure.len() / 2) | (byte(structure, entry) == 0) {
         return NONE;
     }
     neighbour(e, cell, o)

@@ -12,7 +12,8 @@ use lib.ListN.{length}
 use Rattle.groups.proofs.BoolLaws.{or-left}
 use Rattle.frame.specs.Shape.{size, leading}
 use Rattle.frame.specs.Memory.{wordsNeeded}
-use Rattle.frame.specs.Causes.{badRank, hasZero, tooLarge, Test, when, firstCause, openTests, openCause, feedTests, feedCause}
+use Rattle.frame.specs.Causes.{badRank, hasZero, tooLarge, lopsided, Test, when, firstCause, openTests, openCause, feedTests}
+use Rattle.frame.specs.Causes.{feedCause}
 use Rattle.frame.specs.Causes.{readTests, readCause, sizesTests, sizesCause, frameTests, frameCause}
 
 -- ---- accepted
@@ -37,11 +38,26 @@ accepted (t ∷ ts) r = go (t .holds) refl (accepted ts (r .1))
     go true e i = (λ h. absurd (r .0 (rw e at h)), λ h. absurd (true≢false (sym e ∙ h .0)))
     go false e i = (λ h. (e, i .0 (rw e at h)), λ h. rw e (i .1 (h .1)))
 
+-- tests, and more tests after them
+real-both : (ts us : List Test) → Real ts → Real us → Real (ts ++ us)
+real-both [] us r s = s
+real-both (t ∷ ts) us r s = (r .0, real-both ts us (r .1) s)
+
+none-both : (ts us : List Test) → NoneHolds (ts ++ us) → NoneHolds ts × NoneHolds us
+none-both [] us h = (tt, h)
+none-both (t ∷ ts) us h = let k = none-both ts us (h .1) in ((h .0, k .0), k .1)
+
+-- where none of the first holds, the others decide
+pub first-none : (ts us : List Test) → NoneHolds ts → firstCause (ts ++ us) ≡ firstCause us
+unfolding firstCause
+first-none [] us h = refl
+first-none (t ∷ ts) us h = rw (h .0) (first-none ts us (h .1))
+
 -- so of every call
 pub open-real : (shape structure : List ℕ) (memory : ℕ) → Real (openTests shape structure memory)
 unfolding openTests
 open-real shape structure memory =
-    ((λ z. omega arith), ((λ z. omega arith), ((λ z. omega arith), ((λ z. omega arith), ((λ z. omega arith), tt)))))
+    ((λ z. omega arith), ((λ z. omega arith), ((λ z. omega arith), ((λ z. omega arith), ((λ z. omega arith), ((λ z. omega arith), tt))))))
 
 pub feed-real : (sound : Bool) (left k w cells : ℕ) → Real (feedTests sound left k w cells)
 unfolding feedTests
@@ -55,15 +71,16 @@ pub sizes-real : (sound : Bool) (out n : ℕ) → Real (sizesTests sound out n)
 unfolding sizesTests
 sizes-real sound out n = ((λ z. omega arith), ((λ z. omega arith), tt))
 
+-- a whole frame's, after an opening's
+abbrev restTests : List ℕ → ℕ → ℕ → Bool → List Test
+restTests shape cells out fits =
+    when (not (eqb cells (size shape))) 8 ∷ when (not (eqb out (size shape))) 9 ∷ when (not fits) 10 ∷ []
+
 pub frame-real : (shape structure : List ℕ) (memory cells out : ℕ) (fits : Bool) → Real (frameTests shape structure memory cells out fits)
-unfolding frameTests openTests
-frame-real shape structure memory cells out fits = (
-  (λ z. omega arith),
-  (
-    (λ z. omega arith),
-    ((λ z. omega arith), ((λ z. omega arith), ((λ z. omega arith), ((λ z. omega arith), ((λ z. omega arith), ((λ z. omega arith), tt)))))),
-  ),
-)
+unfolding frameTests
+frame-real shape structure memory cells out fits =
+    real-both (openTests shape structure memory) (restTests shape cells out fits) (open-real shape structure memory)
+    ((λ z. omega arith), ((λ z. omega arith), ((λ z. omega arith), tt)))
 
 -- the condition that two counts differ does not hold: they are equal
 same-count : (a b : ℕ) → not (eqb a b) ≡ false → a ≡ b
@@ -83,6 +100,7 @@ rank-right shape h = go (eqb (length shape) 0) refl
 pub record Allowed (shape structure : List ℕ) (memory : ℕ) : Type 0 where
   pub ranked : badRank shape ≡ false
   pub bytes : length structure ≡ 3 ^ length shape
+  pub not-lopsided : lopsided (length shape) structure ≡ false
   pub dimensions : hasZero (leading shape) ≡ false
   pub limits : tooLarge shape ≡ false
   pub enough : wordsNeeded shape structure ≤ memory
@@ -94,10 +112,10 @@ open-accepted shape structure memory e =
     record {
       ranked = h .0;
       bytes = same-count (length structure) (3 ^ length shape) (h .1 .0);
-      dimensions = h .1 .1 .0;
-      limits =
-          h .1 .1 .1 .0;
-      enough = ltb-false memory (wordsNeeded shape structure) (h .1 .1 .1 .1 .0);
+      not-lopsided = h .1 .1 .0;
+      dimensions = h .1 .1 .1 .0;
+      limits = h .1 .1 .1 .1 .0;
+      enough = ltb-false memory (wordsNeeded shape structure) (h .1 .1 .1 .1 .1 .0);
     }
 
 pub feed-accepted : (sound : Bool) (left k w cells : ℕ) → feedCause sound left k w cells ≡ 0 → (sound ≡ true) × (k ≤ left) × (cells ≡ k * w)
@@ -133,24 +151,26 @@ unfolding sizesCause sizesTests firstCause
 accepted-sizes out n e = rw (eq-eqb out n e)
 
 -- what is known of a whole frame before anything is written: it opens, and its cells and its output are L × w
-pub frame-accepted : (shape structure : List ℕ) (memory cells out : ℕ) → frameCause shape structure memory cells out true ≡ 0
-    → (openCause shape structure memory ≡ 0) × (cells ≡ size shape) × (out ≡ size shape)
-unfolding frameCause frameTests openCause openTests
-frame-accepted shape structure memory cells out e =
-    let h = accepted (frameTests shape structure memory cells out true) (frame-real shape structure memory cells out true) .0 e in (
-      accepted (openTests shape structure memory) (open-real shape structure memory) .1
-          (h .0, (h .1 .0, (h .1 .1 .0, (h .1 .1 .1 .0, (h .1 .1 .1 .1 .0, tt))))),
-      same-count cells (size shape) (h .1 .1 .1 .1 .1 .0),
-      same-count out (size shape) (h .1 .1 .1 .1 .1 .1 .0),
-    )
+module _ (shape structure : List ℕ) (memory cells out : ℕ) (none : frameCause shape structure memory cells out true ≡ 0) where
+  parts : NoneHolds (openTests shape structure memory) × NoneHolds (restTests shape cells out true)
+  unfolding frameCause frameTests
+  parts = none-both (openTests shape structure memory) (restTests shape cells out true)
+      (accepted (frameTests shape structure memory cells out true) (frame-real shape structure memory cells out true) .0 none)
 
--- and then its cause is a reading's
-pub frame-reads : (shape structure : List ℕ) (memory cells out : ℕ) (fits : Bool) → frameCause shape structure memory cells out true ≡ 0
-    → frameCause shape structure memory cells out fits ≡ readCause true out (size shape) fits
-unfolding frameCause frameTests openTests firstCause readCause readTests
-frame-reads shape structure memory cells out fits e =
-    let h = accepted (frameTests shape structure memory cells out true) (frame-real shape structure memory cells out true) .0 e in
-    rw (h .0, h .1 .0, h .1 .1 .0, h .1 .1 .1 .0, h .1 .1 .1 .1 .0, h .1 .1 .1 .1 .1 .0) refl
+  pub frame-accepted : (openCause shape structure memory ≡ 0) × (cells ≡ size shape) × (out ≡ size shape)
+  unfolding openCause
+  frame-accepted = (
+    accepted (openTests shape structure memory) (open-real shape structure memory) .1 (parts .0),
+    same-count cells (size shape) (parts .1 .0),
+    same-count out (size shape) (parts .1 .1 .0),
+  )
+
+  -- and then its cause is a reading's
+  pub frame-reads : (fits : Bool) → frameCause shape structure memory cells out fits ≡ readCause true out (size shape) fits
+  unfolding frameCause frameTests readCause readTests
+  frame-reads fits =
+      first-none (openTests shape structure memory) (restTests shape cells out fits) (parts .0)
+      ∙ (unfold firstCause in rw (parts .1 .0) refl)
 
 -- a cause that is known before then is the cause
 first-known : (ts us vs : List Test) (c : ℕ) → firstCause us ≡ 0 → firstCause (ts ++ us) ≡ suc c → firstCause (ts ++ vs) ≡ suc c

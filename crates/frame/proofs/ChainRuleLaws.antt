@@ -2,7 +2,7 @@
 -- Assumes nothing.
 use mathlib.Core.Path.{_≡_, refl, sym, ap, ap₂, _∙_, subst}
 use mathlib.Core.Logic.{_⊎_, inl, inr, _↔_}
-use mathlib.Core.Bool.{Bool, true, false, _||_, true≢false}
+use mathlib.Core.Bool.{Bool, true, false, _&&_, _||_, true≢false}
 use mathlib.Core.List.{List, [], _∷_, map, zipWith, List·Memᴰ}
 use Prim.Native.Nat.{ℕ, zero, suc, _+_, _^_, _≤_, _<_}
 use native.Mathlib.Nat.{le-refl, not-suc-le-zero, le-of-suc-le-suc, zero-add}
@@ -19,7 +19,7 @@ use Rattle.groups.proofs.RepLaws.{Ends, ends-all}
 use Rattle.groups.proofs.NumberLaws.{number-right, number-unique, count-unique, numbered-over, numbered-same}
 use Rattle.frame.specs.Shape.{size, coords}
 use Rattle.frame.specs.Structure.{offset, backward, Moved, on}
-use Rattle.frame.specs.ChainRule.{nonzero, Leads, Step, Group, Labelled, sameList, any, leadsBy, step, edges, groupCount, label}
+use Rattle.frame.specs.ChainRule.{nonzero, Leads, Step, Group, Labelled, sameList, any, leadsBy, edgesBy, edges, groupCount, label}
 use Rattle.frame.specs.ChainRule.{range, labels}
 
 -- ---- tests
@@ -55,25 +55,7 @@ unfolding sameList
 same-refl [] = refl
 same-refl (x ∷ xs) = and-true (eqb x x) (sameList xs xs) (eq-eqb x x refl) (same-refl xs)
 
--- ---- the edges are the steps
-
-module _ (shape structure : List ℕ) (p q : ℕ) where
-  found-leads : any (leadsBy shape structure p q) (3 ^ length shape) ≡ true → Leads shape structure p q
-  unfolding leadsBy Moved
-  found-leads h =
-      let r = any-found (leadsBy shape structure p q) (3 ^ length shape) h in
-      let c = r .0 in
-      let b = and₃ (backward (offset (length shape) c)) (on structure c)
-      (sameList (zipWith _+_ (coords shape p) (offset (length shape) c)) (map suc (coords shape q))) (r .2) in
-      record { code = c; is-code = r .1; is-backward = b .0; is-on = b .1; leads = same-eq _ _ (b .2) }
-
-  leads-found : Leads shape structure p q → any (leadsBy shape structure p q) (3 ^ length shape) ≡ true
-  unfolding leadsBy Moved
-  leads-found h =
-      any-at (leadsBy shape structure p q) (3 ^ length shape) (h .code) (h .is-code)
-      (and-true _ _ (h .is-backward) (and-true _ _ (h .is-on)
-      (subst (λ (l : List ℕ). sameList (zipWith _+_ (coords shape p) (offset (length shape) (h .code))) l ≡ true) (h .leads)
-      (same-refl (zipWith _+_ (coords shape p) (offset (length shape) (h .code)))))))
+-- ---- cells
 
 -- a fed nonzero cell is fed
 pub nonzero-below : (cells : List Bool) (p : ℕ) → nonzero cells p ≡ true → p < length cells
@@ -87,27 +69,92 @@ pub nonzero-beyond : (cells : List Bool) (p : ℕ) → length cells ≤ p → no
 unfolding nonzero
 nonzero-beyond cells p h = List·getD-eq-default cells false h
 
+-- ---- edges by the offsets whose codes pass a test
+
+pub record LedBy (shape : List ℕ) (test : ℕ → Bool) (p q : ℕ) : Type 0 where
+  pub code : ℕ
+  pub is-code : code < 3 ^ length shape
+  pub passes : test code ≡ true
+  pub leads : Moved (coords shape p) (offset (length shape) code) (coords shape q)
+
+module _ (shape : List ℕ) (test : ℕ → Bool) where
+  abbrev leadsAt : ℕ → ℕ → ℕ → Bool
+  leadsAt p q c = test c && sameList (zipWith _+_ (coords shape p) (offset (length shape) c)) (map suc (coords shape q))
+
+  found-led : (p q : ℕ) → leadsBy shape test p q ≡ true → LedBy shape test p q
+  unfolding leadsBy Moved
+  found-led p q h =
+      let r = any-found (leadsAt p q) (3 ^ length shape) h in
+      record {
+        code = r .0;
+        is-code = r .1;
+        passes = and-left (test (r .0)) _ (r .2);
+        leads = same-eq _ _ (and-right (test (r .0)) _ (r .2));
+      }
+
+  led-found : (p q : ℕ) → LedBy shape test p q → leadsBy shape test p q ≡ true
+  unfolding leadsBy Moved
+  led-found p q h =
+      any-at (leadsAt p q) (3 ^ length shape) (h .code) (h .is-code)
+      (and-true _ _ (h .passes)
+      (subst (λ (l : List ℕ). sameList (zipWith _+_ (coords shape p) (offset (length shape) (h .code))) l ≡ true) (h .leads)
+      (same-refl (zipWith _+_ (coords shape p) (offset (length shape) (h .code))))))
+
+  module _ (cells : List Bool) where
+    abbrev passing : ℕ → ℕ → Bool
+    passing p q = nonzero cells p && (nonzero cells q && leadsBy shape test p q)
+
+    pub edge-led : (e : Edge) → List·Memᴰ e (edgesBy shape test cells)
+        → (nonzero cells (e .from) ≡ true) × (nonzero cells (e .to) ≡ true) × LedBy shape test (e .from) (e .to)
+    unfolding edgesBy
+    edge-led e m =
+        let b = and₃ (nonzero cells (e .from)) (nonzero cells (e .to)) (leadsBy shape test (e .from) (e .to))
+        (pairs-from passing 0 (length cells) 0 (length cells) e m .passes) in
+        (b .0, b .1, found-led (e .from) (e .to) (b .2))
+
+    pub led-edge : (p q : ℕ) → nonzero cells p ≡ true → nonzero cells q ≡ true → LedBy shape test p q
+        → List·Memᴰ (record { from = p; to = q }) (edgesBy shape test cells)
+    unfolding edgesBy
+    led-edge p q a b l =
+        from-pairs passing 0 (length cells) 0 (length cells) (record { from = p; to = q })
+        (record {
+          from-low = omega arith;
+          from-high = omega (arith, nonzero-below cells p a);
+          to-low = omega arith;
+          to-high = omega (arith, nonzero-below cells q b);
+          passes = and-true _ _ a (and-true _ _ b (led-found p q l));
+        })
+
+    pub nonzero-ends : Ends (λ p. nonzero cells p ≡ true) (edgesBy shape test cells)
+    nonzero-ends = ends-all (λ p. nonzero cells p ≡ true) (edgesBy shape test cells) (λ e m. let s = edge-led e m in (s .0, s .1))
+
+-- ---- the edges are the steps
+
 module _ (shape structure : List ℕ) (cells : List Bool) where
+  -- the offsets of the chain rule
+  abbrev uses : ℕ → Bool
+  uses c = backward (offset (length shape) c) && on structure c
+
+  led-leads : (p q : ℕ) → LedBy shape uses p q → Leads shape structure p q
+  led-leads p q l = record {
+    code = l .code;
+    is-code = l .is-code;
+    is-backward = and-left (backward (offset (length shape) (l .code))) (on structure (l .code)) (l .passes);
+    is-on = and-right (backward (offset (length shape) (l .code))) (on structure (l .code)) (l .passes);
+    leads = l .leads;
+  }
+
   step-parts : (e : Edge) → List·Memᴰ e (edges shape structure cells)
       → (nonzero cells (e .from) ≡ true) × (nonzero cells (e .to) ≡ true) × Leads shape structure (e .from) (e .to)
-  unfolding edges step
-  step-parts e m =
-      let b = and₃ (nonzero cells (e .from)) (nonzero cells (e .to)) (any (leadsBy shape structure (e .from) (e .to)) (3 ^ length shape))
-      (pairs-from (step shape structure cells) 0 (length cells) 0 (length cells) e m .passes) in
-      (b .0, b .1, found-leads shape structure (e .from) (e .to) (b .2))
+  unfolding edges
+  step-parts e m = let b = edge-led shape uses cells e m in (b .0, b .1, led-leads (e .from) (e .to) (b .2))
 
   pub step-edge : (p q : ℕ) → nonzero cells p ≡ true → nonzero cells q ≡ true → Leads shape structure p q
       → List·Memᴰ (record { from = p; to = q }) (edges shape structure cells)
-  unfolding edges step
+  unfolding edges
   step-edge p q a b l =
-      from-pairs (step shape structure cells) 0 (length cells) 0 (length cells) (record { from = p; to = q })
-      (record {
-        from-low = omega arith;
-        from-high = omega (arith, nonzero-below cells p a);
-        to-low = omega arith;
-        to-high = omega (arith, nonzero-below cells q b);
-        passes = and-true _ _ a (and-true _ _ b (leads-found shape structure p q l));
-      })
+      led-edge shape uses cells p q a b
+      (record { code = l .code; is-code = l .is-code; passes = and-true _ _ (l .is-backward) (l .is-on); leads = l .leads })
 
   pub joined-step : (p q : ℕ) → Joined (edges shape structure cells) p q → Step shape structure cells p q
   joined-step p q (inl m) = let s = step-parts _ m in record { here = s .0; there = s .1; way = inl (s .2) }
@@ -132,8 +179,9 @@ module _ (shape structure : List ℕ) (cells : List Bool) where
   chain-nonzero a one = a
   chain-nonzero a (more s h) = chain-nonzero (s .there) h
 
-  nonzero-ends : Ends (λ p. nonzero cells p ≡ true) (edges shape structure cells)
-  nonzero-ends = ends-all (λ p. nonzero cells p ≡ true) (edges shape structure cells) (λ e m. let s = step-parts e m in (s .0, s .1))
+  ends : Ends (λ p. nonzero cells p ≡ true) (edges shape structure cells)
+  unfolding edges
+  ends = nonzero-ends shape uses cells
 
   -- ---- the numbers
 
@@ -141,7 +189,7 @@ module _ (shape structure : List ℕ) (cells : List Bool) where
   pub label-right : Labelled shape structure cells (groupCount shape structure cells) (label shape structure cells)
   unfolding groupCount label
   label-right = numbered-over (λ a b h. chain-map joined-step h) (λ a b h. chain-map step-joined h)
-      (number-right (nonzero cells) (edges shape structure cells) nonzero-ends (size shape))
+      (number-right (nonzero cells) (edges shape structure cells) ends (size shape))
 
   -- one number exactly for one group
   pub label-group : (p q : ℕ) → p < size shape → q < size shape → nonzero cells p ≡ true → nonzero cells q ≡ true
@@ -152,14 +200,14 @@ module _ (shape structure : List ℕ) (cells : List Bool) where
   module _ (n : ℕ) (ν : ℕ → ℕ) (N : Labelled shape structure cells n ν) where
     pub label-only : (p : ℕ) → p < size shape → ν p ≡ label shape structure cells p
     label-only p h =
-        number-unique (nonzero cells) (edges shape structure cells) nonzero-ends (size shape) n (groupCount shape structure cells) ν
+        number-unique (nonzero cells) (edges shape structure cells) ends (size shape) n (groupCount shape structure cells) ν
         (label shape structure cells)
         (numbered-over (λ a b h. chain-map step-joined h) (λ a b h. chain-map joined-step h) N)
         (numbered-over (λ a b h. chain-map step-joined h) (λ a b h. chain-map joined-step h) label-right) p h
 
     pub count-only : n ≡ groupCount shape structure cells
     count-only =
-        count-unique (nonzero cells) (edges shape structure cells) nonzero-ends (size shape) n (groupCount shape structure cells) ν
+        count-unique (nonzero cells) (edges shape structure cells) ends (size shape) n (groupCount shape structure cells) ν
         (label shape structure cells)
         (numbered-over (λ a b h. chain-map step-joined h) (λ a b h. chain-map joined-step h) N)
         (numbered-over (λ a b h. chain-map step-joined h) (λ a b h. chain-map joined-step h) label-right)

@@ -2,6 +2,7 @@ pub mod Answers
 pub mod ShapeLaws
 pub mod StructureLaws
 pub mod ChainRuleLaws
+pub mod SymmetryLaws
 pub mod ListLaws
 pub mod SetLaws
 pub mod OverlayLaws
@@ -17,4 +18,5 @@ pub mod RunGroupLaws
 pub mod GrowLaws
 pub mod KindLaws
 pub mod CauseLaws
+pub mod ScipyLaws
 pub mod PlainLaws

@@ -1,11 +1,13 @@
 -- The causes of a refusal, and each call's order of them.
 -- Assumes nothing.
-use mathlib.Core.Bool.{Bool, false, not, cond, _||_}
+use mathlib.Core.Bool.{Bool, false, not, cond, _||_, Bool·beq}
 use mathlib.Core.List.{List, [], _∷_, _++_}
 use Prim.Native.Nat.{ℕ, _*_, _^_}
 use lib.Dec.{eqb, ltb, leb}
 use lib.ListN.{length}
 use Rattle.frame.specs.Shape.{size, width, leading, lines}
+use Rattle.frame.specs.Structure.{on, oppositeCode}
+use Rattle.frame.specs.ChainRule.{any}
 use Rattle.frame.specs.Memory.{wordsNeeded}
 
 -- ---- conditions on a shape, which a record's shape must not meet either
@@ -23,6 +25,15 @@ hasZero (d ∷ ds) = eqb d 0 || hasZero ds
 unfoldable pub tooLarge : List ℕ → Bool
 tooLarge shape = leb 2147483647 (width shape) || (leb 4294967293 (lines shape) || leb 4294967293 (size shape))
 
+-- ---- a condition on a structure, which a record's structure must not meet either
+
+-- 12 (document 02, F-4): byte i and byte 3^rank - 1 - i are not both zero or both nonzero; of some i
+unfoldable pub unlike : ℕ → List ℕ → ℕ → Bool
+unlike rank structure i = not (Bool·beq (on structure i) (on structure (oppositeCode rank i)))
+
+unfoldable pub lopsided : ℕ → List ℕ → Bool
+lopsided rank structure = any (unlike rank structure) (3 ^ rank)
+
 -- ---- order
 
 -- a condition, with the number of the cause that it is
@@ -38,11 +49,12 @@ unfoldable pub firstCause : List Test → ℕ
 firstCause [] = 0
 firstCause (t ∷ ts) = cond (t .holds) (t .number) (firstCause ts)
 
--- opening: 1 to 5, where `memory` is the count of words
+-- opening: 1, 2, 12, 3, 4, 5, where `memory` is the count of words
 unfoldable pub openTests : List ℕ → List ℕ → ℕ → List Test
 openTests shape structure memory =
     when (badRank shape) 1
     ∷ when (not (eqb (length structure) (3 ^ length shape))) 2
+    ∷ when (lopsided (length shape) structure) 12
     ∷ when (hasZero (leading shape)) 3
     ∷ when (tooLarge shape) 4
     ∷ when (ltb memory (wordsNeeded shape structure)) 5
@@ -72,7 +84,7 @@ sizesTests sound out n = when (not sound) 6 ∷ when (not (eqb out n)) 9 ∷ []
 unfoldable pub sizesCause : Bool → ℕ → ℕ → ℕ
 sizesCause sound out n = firstCause (sizesTests sound out n)
 
--- whole frame: 1 to 5, 8, 9, 10. The counts of words, of cells and of output places, and whether the kind holds n
+-- whole frame: an opening's, then 8, 9, 10. The counts of words, of cells and of output places, and whether the kind holds n
 unfoldable pub frameTests : List ℕ → List ℕ → ℕ → ℕ → ℕ → Bool → List Test
 frameTests shape structure memory cells out fits =
     openTests shape structure memory

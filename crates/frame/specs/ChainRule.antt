@@ -52,16 +52,19 @@ unfoldable pub any : (ℕ → Bool) → ℕ → Bool
 any f zero = false
 any f (suc n) = f n || any f n
 
-unfoldable pub leadsBy : List ℕ → List ℕ → ℕ → ℕ → ℕ → Bool
-leadsBy shape structure p q c =
-    backward (offset (length shape) c)
-    && (on structure c && sameList (zipWith _+_ (coords shape p) (offset (length shape) c)) (map suc (coords shape q)))
+-- an offset whose code passes the test leads from p to q
+unfoldable pub leadsBy : List ℕ → (ℕ → Bool) → ℕ → ℕ → Bool
+leadsBy shape test p q =
+    any (λ c. test c && sameList (zipWith _+_ (coords shape p) (offset (length shape) c)) (map suc (coords shape q))) (3 ^ length shape)
 
-unfoldable pub step : List ℕ → List ℕ → List Bool → ℕ → ℕ → Bool
-step shape structure cells p q = nonzero cells p && (nonzero cells q && any (leadsBy shape structure p q) (3 ^ length shape))
+-- the pairs of fed nonzero cells of which such an offset leads from the one to the other
+unfoldable pub edgesBy : List ℕ → (ℕ → Bool) → List Bool → List Edge
+edgesBy shape test cells =
+    pairs (λ p q. nonzero cells p && (nonzero cells q && leadsBy shape test p q)) 0 (length cells) 0 (length cells)
 
+-- the steps, each from one end: by the backward offsets with a nonzero byte
 unfoldable pub edges : List ℕ → List ℕ → List Bool → List Edge
-edges shape structure cells = pairs (step shape structure cells) 0 (length cells) 0 (length cells)
+edges shape structure cells = edgesBy shape (λ c. backward (offset (length shape) c) && on structure c) cells
 
 -- document 01's n: how many groups the chain rule makes of the fed nonzero cells
 unfoldable pub groupCount : List ℕ → List ℕ → List Bool → ℕ

@@ -2,7 +2,7 @@
 -- Assumes nothing.
 use mathlib.Core.Bool.{true, false}
 use mathlib.Core.List.{List, [], _∷_, _++_}
-use Prim.Native.Nat.{ℕ, zero, suc, _-_, _/_, _%_}
+use Prim.Native.Nat.{ℕ, zero, suc, _-_, _*_, _/_, _%_}
 use lib.IntN.{pos, negsuc}
 use lib.Ieee.{nan, inf, fin}
 use lib.ListN.{replicate}
@@ -76,9 +76,9 @@ C = d 9 10111010
 F : List ℕ
 F = replicate 9 1
 
--- a structure of 27 bytes, of which the one at code c is 1
-alone : ℕ → List ℕ
-alone c = replicate c 0 ++ 1 ∷ replicate (26 - c) 0
+-- a structure of 27 bytes, of which those at code c, below the centre's, and at the opposite code are 1
+pair : ℕ → List ℕ
+pair c = replicate c 0 ++ 1 ∷ replicate (25 - 2 * c) 0 ++ 1 ∷ replicate c 0
 
 -- ---- document 01's nine
 
@@ -101,10 +101,10 @@ nine =
     ∷ whole (2 ∷ 2 ∷ []) F (d 4 1001) 1 2 1 (d 4 1001)
     -- 4
     ∷ whole (2 ∷ 3 ∷ []) (d 9 101000101) (d 6 111111) 2 6 4 (d 6 121212)
-    -- 5
+    -- 5, of which document 02's F-4 makes the structures 100 and 001 refusals
     ∷ whole (3 ∷ []) (d 3 10) (d 3 111) 3 3 0 (d 3 123)
-    ∷ whole (3 ∷ []) (d 3 100) (d 3 111) 1 1 0 (d 3 111)
-    ∷ whole (3 ∷ []) (d 3 1) (d 3 111) 3 3 0 (d 3 123)
+    ∷ opening (3 ∷ []) (d 3 100) 1000 (no 12 ∷ [])
+    ∷ opening (3 ∷ []) (d 3 1) 1000 (no 12 ∷ [])
     -- 6
     ∷ record {
       shape = 4 ∷ [];
@@ -124,22 +124,20 @@ nine =
     ∷ opening (3 ∷ 3 ∷ []) C 27 (no 5 ∷ [])
     ∷ []
 
--- ---- frames that catch the slips of this trade
+-- ---- frames that catch the slips of this trade. Backward taken as forward shows of a lopsided structure alone: proofs/Answers.antt has it
 
 unfoldable pub slips : List Frame
-unfolding whole alone size leading digitsOf
+unfolding whole pair size leading digitsOf
 slips =
     -- the neighbour widened at both ends, though one byte is set
-    whole (2 ∷ 2 ∷ []) (d 9 110000000) (d 4 110) 2 2 0 (d 4 120)
-    ∷ whole (2 ∷ 2 ∷ []) (d 9 110000000) (d 4 1001) 1 2 1 (d 4 1001)
+    whole (2 ∷ 2 ∷ []) (d 9 110000011) (d 4 110) 2 2 0 (d 4 120)
+    ∷ whole (2 ∷ 2 ∷ []) (d 9 110000011) (d 4 1001) 1 2 1 (d 4 1001)
     -- offset 0,-1,0: a neighbour by line number, though a coordinate is out of range
-    ∷ whole (2 ∷ 2 ∷ 1 ∷ []) (alone 10) (d 4 110) 2 2 0 (d 4 120)
+    ∷ whole (2 ∷ 2 ∷ 1 ∷ []) (pair 10) (d 4 110) 2 2 0 (d 4 120)
     -- offset -1,0,0: only the line before stitched, though the neighbour is two lines back
-    ∷ whole (2 ∷ 2 ∷ 1 ∷ []) (alone 4) (d 4 1010) 1 2 1 (d 4 1010)
-    -- offset +1,-1 taken as backward
-    ∷ whole (2 ∷ 2 ∷ []) (d 9 100) (d 4 110) 2 2 0 (d 4 120)
+    ∷ whole (2 ∷ 2 ∷ 1 ∷ []) (pair 4) (d 4 1010) 1 2 1 (d 4 1010)
     -- a neighbour run dropped once it has been met
-    ∷ whole (2 ∷ 4 ∷ []) (d 9 100100000) (d 8 10100111) 1 3 2 (d 8 10100111)
+    ∷ whole (2 ∷ 4 ∷ []) (d 9 100101001) (d 8 10100111) 1 3 2 (d 8 10100111)
     ∷ []
 
 -- ---- refusals: each cause of an opening before those that come later, at its limit and beside it; then feeds, readings and size
@@ -149,8 +147,13 @@ unfoldable pub refusals : List Frame
 unfolding C opening digitsOf
 refusals =
     opening [] C 0 (no 1 ∷ [])
-    ∷ opening (0 ∷ 1 ∷ 1 ∷ 1 ∷ 1 ∷ []) [] 0 (no 1 ∷ [])
-    ∷ opening (0 ∷ 3 ∷ []) (d 3 111) 0 (no 2 ∷ [])
+    ∷ opening (0 ∷ 1 ∷ 1 ∷ 1 ∷ 1 ∷ []) (d 3 100) 0 (no 1 ∷ [])
+    ∷ opening (0 ∷ 3 ∷ []) (d 3 100) 0 (no 2 ∷ [])
+    -- one arm missing; lopsided at the outermost pair, and at the innermost; alike, though not by value
+    ∷ opening (0 ∷ 3 ∷ []) (d 9 10111000) 0 (no 12 ∷ [])
+    ∷ opening (0 ∷ 3 ∷ []) (d 9 1) 0 (no 12 ∷ [])
+    ∷ opening (2147483647 ∷ []) (d 3 1) 0 (no 12 ∷ [])
+    ∷ opening (3 ∷ []) (d 3 207) 10 []
     ∷ opening (4294967293 ∷ 0 ∷ 3 ∷ []) (replicate 27 1) 0 (no 3 ∷ [])
     ∷ opening (0 ∷ 2147483647 ∷ []) C 0 (no 3 ∷ [])
     ∷ opening (2147483647 ∷ []) (d 3 111) 0 (no 4 ∷ [])

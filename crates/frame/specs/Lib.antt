@@ -1,6 +1,7 @@
 pub mod Shape
 pub mod Structure
 pub mod ChainRule
+pub mod Scipy
 pub mod Lists
 pub mod Overlay
 pub mod Runs

@@ -1,9 +1,9 @@
--- The structure: offsets by their code, backward offsets, the left byte.
+-- The structure: offsets by their code, backward offsets, the left byte, symmetry about the centre.
 -- Assumes nothing.
 use mathlib.Core.Path.{_≡_}
 use mathlib.Core.Bool.{Bool, false, not, _&&_, _||_}
 use mathlib.Core.List.{List, [], _∷_, map, zipWith}
-use Prim.Native.Nat.{ℕ, zero, suc, _+_, _-_, _/_, _^_}
+use Prim.Native.Nat.{ℕ, zero, suc, _+_, _-_, _/_, _^_, _<_}
 use lib.Dec.{eqb}
 use lib.IntN.{ℤ, pos, negsuc}
 use lib.ListN.{length, getD, replicate}
@@ -33,9 +33,21 @@ Moved xs ts ys = zipWith _+_ xs ts ≡ map suc ys
 unfoldable pub on : List ℕ → ℕ → Bool
 on structure code = not (eqb (getD structure code 0) 0)
 
+-- the centre's code, that of the offset whose parts are all 0
+abbrev pub centreCode : ℕ → ℕ
+centreCode rank = 3 ^ rank / 2
+
 -- document 01's left byte belongs to offset 0, .., 0, -1, the code before the centre's: is it nonzero?
 abbrev pub leftCode : ℕ → ℕ
-leftCode rank = 3 ^ rank / 2 - 1
+leftCode rank = centreCode rank - 1
 
 unfoldable pub leftOn : List ℕ → List ℕ → Bool
 leftOn shape structure = on structure (leftCode (length shape))
+
+-- the code of the offset whose parts are the negatives of those at code i
+abbrev pub oppositeCode : ℕ → ℕ → ℕ
+oppositeCode rank i = 3 ^ rank - 1 - i
+
+-- document 02's "symmetric about its centre": byte i and byte 3^rank - 1 - i are both zero or both nonzero
+abbrev pub Symmetric : ℕ → List ℕ → Type 0
+Symmetric rank structure = (i : ℕ) → i < 3 ^ rank → on structure i ≡ on structure (oppositeCode rank i)

@@ -1,5 +1,5 @@
-// Whole frames at run time, for every block count from 0 to one more than the lines, against a plain labelling by flood
-// fill.
+// Whole frames at run time, for every block count from 0 to one more than the lines, against a plain labelling by flood fill; and the same
+// frames with lopsided structures, which are refused.
 use flood::Extent;
 use flood::layout;
 use flood::less;
@@ -165,6 +165,33 @@ fn try_call(
     );
 }
 
+// With a structure made lopsided, whatever cells and places are given: 12, and nothing is written.
+fn try_lopsided(
+    shape: &[usize],
+    structure: &[u8],
+    flags: &[u8; 640],
+    call: Call,
+    state: &mut [u64; 40],
+) {
+    let mut laid = [7u32; 3201];
+    let marks = [0u32; 1920];
+    let none = flood::Count { n: 0, runs: 0 };
+    let right = answers::refused(12);
+    let blocks = below(tally::random(state), 4);
+    let agreed = try_blocks(
+        shape,
+        structure,
+        flags,
+        call,
+        blocks,
+        &mut laid,
+        &marks,
+        right,
+        none,
+    );
+    tally::count(state, tally::OTHER, right.number, agreed);
+}
+
 // A random call, for as many cells, now and then one more or one less.
 fn draw(exact: usize, x: u64) -> Call {
     Call {
@@ -185,6 +212,9 @@ fn try_frame(state: &mut [u64; 40]) {
     tally::add(state, plus(tally::CODES, call.kinds / 4));
     tally::add(state, plus(tally::CODES, plus(call.kinds % 4, 4)));
     try_call(used, bytes, &flags, call, state);
+    let count = samples::power3(shape.rank);
+    let lopsided = samples::lopsided(structure, count, tally::random(state));
+    try_lopsided(used, samples::first(&lopsided, count), &flags, call, state);
 }
 
 fn try_frames(state: &mut [u64; 40]) {
@@ -231,5 +261,6 @@ fn report(state: &[u64; 40]) {
         tally::CODES,
     );
     tally::report(state, b"refused 8: #\nrefused 9: #\nrefused 10: #\n", 32);
+    tally::report(state, b"refused 12: #\n", tally::REFUSED_12);
     tally::report(state, b"differed=#\n", tally::DIFFERED);
 }

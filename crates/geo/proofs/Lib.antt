@@ -2,5 +2,6 @@ pub mod CopyLaws
 pub mod ProductLaws
 pub mod DimsLaws
 pub mod LeftLaws
+pub mod LopsidedLaws
 pub mod GeoLaws
 pub mod ShapeSoundLaws

@@ -1,4 +1,4 @@
--- Which shape, memory and lines fed may stand in a record: the test decides it, and what each condition of `shapeSound` answers.
+-- Which shape, structure, memory and lines fed may stand in a record: the test decides it, and what each condition of `shapeSound` answers.
 -- Assumes nothing.
 use mathlib.Core.Path.{_≡_, refl, sym, ap, ap₂, _∙_}
 use mathlib.Core.Bool.{Bool, true, false, not, _||_, _&&_, true≢false}
@@ -12,8 +12,9 @@ use Rattle.groups.proofs.BoolLaws.{bool-same, and-true, and-left, and-right}
 use Rattle.frame.specs.Lists.{entries}
 use Rattle.frame.specs.Shape.{lines}
 use Rattle.frame.specs.Memory.{wordsNeeded}
-use Rattle.frame.specs.Causes.{badRank, hasZero, tooLarge}
+use Rattle.frame.specs.Causes.{badRank, hasZero, tooLarge, lopsided}
 use Rattle.frame.proofs.EntryLaws.{length-entries}
+use Rattle.frame.proofs.SymmetryLaws.{lopsided-entries}
 use Rattle.frame.proofs.ListLaws.{every-at, every-more, every-none}
 use Rattle.geo.specs.declared.Geo.{Geo}
 use Rattle.geo.specs.Geometry.{ShapeReady, Measured, GeoOf, WithinLimits, largeGeo, wordsOf, ShapeSound, shapeSound}
@@ -53,8 +54,9 @@ module _ (dims bytes : List ℕ) (memory fed : ℕ) where
     ranked = not-true _ (every-at _ 0 h);
     dimensions = not-true _ (every-at _ 1 h);
     limits = not-true _ (every-at _ 2 h);
-    memory = leb-true _ _ (every-at _ 3 h);
-    within = leb-true _ _ (every-at _ 4 h);
+    not-lopsided = not-true _ (every-at _ 3 h);
+    memory = leb-true _ _ (every-at _ 4 h);
+    within = leb-true _ _ (every-at _ 5 h);
   }
 
   pub right-shape-sound : ShapeSound dims bytes memory fed → shapeSound dims bytes memory fed ≡ true
@@ -63,8 +65,21 @@ module _ (dims bytes : List ℕ) (memory fed : ℕ) where
       every-more _ _ (ap not (A .ranked))
       (every-more _ _ (ap not (A .dimensions))
       (every-more _ _ (ap not (A .limits))
+      (every-more _ _ (ap not (A .not-lopsided))
       (every-more _ _ (le-leb _ _ (A .memory))
-      (every-more _ _ (le-leb _ _ (A .within)) every-none))))
+      (every-more _ _ (le-leb _ _ (A .within)) every-none)))))
+
+  -- it stays so, with as many words and lines of the frame
+  pub shape-stays : {memory′ fed′ : ℕ} → ShapeSound dims bytes memory fed → memory ≡ memory′ → fed′ ≤ lines dims
+      → ShapeSound dims bytes memory′ fed′
+  shape-stays A e h = record {
+    ranked = A .ranked;
+    dimensions = A .dimensions;
+    limits = A .limits;
+    not-lopsided = A .not-lopsided;
+    memory = rw (← e) (A .memory);
+    within = h;
+  }
 
   -- ---- what each condition answers
 
@@ -90,7 +105,7 @@ module _ (rank : ℕ) (shape structure : List ℕ) (ranked : badRank (entries ra
       (λ A. true≢false (sym h ∙ ap₂ _||_ (measured-zero rank shape structure ranked g G ∙ A .dimensions)
       (measured-large rank shape structure ranked g G ∙ A .limits)))
 
-  -- where they do not, memory and lines fed decide
+  -- where they do not, the structure, memory and lines fed decide
   module _ (h : hasZero (g .dims) || largeGeo g ≡ false) where
     none : (hasZero (g .dims) ≡ false) × (largeGeo g ≡ false)
     none = go (hasZero (g .dims)) (largeGeo g) h
@@ -111,16 +126,27 @@ module _ (rank : ℕ) (shape structure : List ℕ) (ranked : badRank (entries ra
     words-are : wordsOf g ≡ wordsNeeded (entries rank shape) (entries (3 ^ rank) structure)
     words-are = geo-words rank shape structure g found-geo
 
-    pub rest-decides : (needed : ℕ) → needed ≡ wordsOf g → leb needed memory && leb fed (g .lines) ≡ told
-    rest-decides needed is =
-        bool-same (leb needed memory && leb fed (g .lines)) told
-        (λ t. right-shape-sound _ _ memory fed (record {
+    sided : lopsided (length (entries rank shape)) (entries (3 ^ rank) structure) ≡ lopsided rank structure
+    sided = ap (λ (r : ℕ). lopsided r (entries (3 ^ rank) structure)) (length-entries rank shape) ∙ lopsided-entries rank structure
+
+    pub rest-decides : (b : Bool) → b ≡ lopsided rank structure → (needed : ℕ) → needed ≡ wordsOf g
+        → (not b && leb needed memory) && leb fed (g .lines) ≡ told
+    rest-decides b is-b needed is =
+        bool-same ((not b && leb needed memory) && leb fed (g .lines)) told
+        (λ t. let u = and-left (not b && leb needed memory) (leb fed (g .lines)) t in
+        right-shape-sound _ _ memory fed (record {
           ranked = ranked;
           dimensions = sym (measured-zero rank shape structure ranked g G) ∙ none .0;
           limits = limits;
-          memory = omega (arith, is, words-are, leb-true needed memory (and-left (leb needed memory) (leb fed (g .lines)) t));
-          within = omega (arith, found-geo .lines-is, leb-true fed (g .lines) (and-right (leb needed memory) (leb fed (g .lines)) t));
+          not-lopsided = sided ∙ sym is-b ∙ not-true b (and-left (not b) (leb needed memory) u);
+          memory = omega (arith, is, words-are, leb-true needed memory (and-right (not b) (leb needed memory) u));
+          within = omega (
+            arith,
+            found-geo .lines-is,
+            leb-true fed (g .lines) (and-right (not b && leb needed memory) (leb fed (g .lines)) t),
+          );
         }))
-        (λ t. let A = shape-sound-right _ _ memory fed t in and-true (leb needed memory) (leb fed (g .lines))
-        (le-leb needed memory (omega (arith, is, words-are, A .memory)))
+        (λ t. let A = shape-sound-right _ _ memory fed t in and-true (not b && leb needed memory) (leb fed (g .lines))
+        (and-true (not b) (leb needed memory) (ap not (is-b ∙ sym sided ∙ A .not-lopsided))
+        (le-leb needed memory (omega (arith, is, words-are, A .memory))))
         (le-leb fed (g .lines) (omega (arith, found-geo .lines-is, A .within))))

@@ -10,7 +10,7 @@ use Rattle.frame.specs.Lists.{entries, every}
 use Rattle.frame.specs.Shape.{size, width, leading, lines}
 use Rattle.frame.specs.Structure.{leftOn}
 use Rattle.frame.specs.Memory.{stride, mostRuns, wordsNeeded}
-use Rattle.frame.specs.Causes.{badRank, hasZero, tooLarge}
+use Rattle.frame.specs.Causes.{badRank, hasZero, tooLarge, lopsided}
 use Rattle.geo.specs.declared.Geo.{Geo}
 use Rattle.geo.specs.declared.Shaped.{Shaped}
 
@@ -65,14 +65,16 @@ wordsOf g = g .lines + 1 + stride * g .lines * mostRuns (g .left) (g .width)
 
 -- ---- shapes that may stand in a record
 
--- the first clauses of document 01's "Unsound, exactly", of a shape, a structure, the count of words and the lines fed. The comment
--- above a field quotes the clause that the field denies
+-- the first clauses of document 01's "Unsound, exactly", of a shape, a structure, the count of words and the lines fed, and document
+-- 02's. The comment above a field quotes the clause that the field denies
 module _ (dims bytes : List ℕ) (words fed : ℕ) where
   pub record ShapeSound : Type 0 where
     -- shape or rank breaks 1, 3 or 4
     pub ranked : badRank dims ≡ false
     pub dimensions : hasZero (leading dims) ≡ false
     pub limits : tooLarge dims ≡ false
+    -- document 02, F-4: a record that holds a lopsided structure
+    pub not-lopsided : lopsided (length dims) bytes ≡ false
     -- memory shorter than needed
     pub memory : wordsNeeded dims bytes ≤ words
     -- lines fed above L
@@ -84,6 +86,7 @@ module _ (dims bytes : List ℕ) (words fed : ℕ) where
       every (not (badRank dims)
       ∷ not (hasZero (leading dims))
       ∷ not (tooLarge dims)
+      ∷ not (lopsided (length dims) bytes)
       ∷ leb (wordsNeeded dims bytes) words
       ∷ leb fed (lines dims)
       ∷ [])

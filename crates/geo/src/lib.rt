@@ -3,8 +3,9 @@
 //
 //     geo_of                           leading dimensions, lines, width and left byte, worked out once for a call and handed on
 //     bad_rank, has_zero, too_large    causes 1, 3 and 4
+//     lopsided                         cause 12
 //     words_needed                     the words of memory that a session needs
-//     shape_sound                      whether shape, memory and lines fed are such as a sound record's, and their geometry
+//     shape_sound                      whether shape, structure, memory and lines fed are such as a sound record's, and their geometry
 //     shape_of, structure_of           the arrays of a lent shape and structure
 ghost use mathlib.Core.Path.{_≡_};
 ghost use mathlib.Core.Bool.{false, _||_};
@@ -16,7 +17,7 @@ ghost use Rattle.frame.specs.Lists.{entries, padded};
 ghost use Rattle.frame.specs.Shape.{size, width, leading};
 ghost use Rattle.frame.specs.Structure.{on, leftCode};
 ghost use Rattle.frame.specs.Memory.{mostRuns};
-ghost use Rattle.frame.specs.Causes.{badRank, hasZero};
+ghost use Rattle.frame.specs.Causes.{badRank, hasZero, lopsided};
 ghost use Rattle.geo.specs.Geometry.{ShapeReady, Measured, WithinLimits, largeGeo, wordsOf, ShapeFound};
 
 // The first width, and the first count of lines or of cells, that is too large.
@@ -109,15 +110,31 @@ pub fn too_large(g: Geo) -> bool
     (g.width >= WIDTH_LIMIT) | (g.lines >= LIMIT) | (cells >= LIMIT)
 }
 
+// 12: byte i and byte 3^rank - 1 - i are not both zero or both nonzero. Each pair has one of its bytes before the centre.
+pub fn lopsided(rank: usize, structure: &[u8]) -> bool
+    requires { ⌜ (1 ≤ rank) × (rank ≤ 4) × (3 ^ rank ≤ length (now structure)) ⌝ }
+    ensures { λ r. ⌜ r ≡ lopsided rank (now (structure .entry)) ⌝ }
+{
+    let last = power3(rank) - 1;
+    let mut i = 0usize;
+    while i < last - i {
+        if (structure[i] != 0) != (structure[last - i] != 0) {
+            return true;
+        }
+        i += 1;
+    }
+    false
+}
+
 // ---- shapes that may stand in a record
 
-// Whether shape, memory and lines fed are such as a sound record's, and where they are their geometry.
+// Whether shape, structure, memory and lines fed are such as a sound record's, and where they are their geometry.
 pub struct Shaped {
     pub sound: bool,
     pub geo: Geo,
 }
 
-// No cause 1, 3 or 4, the words that are needed, no line too many; whatever the arrays hold. `memory` is the count of words.
+// No cause 1, 12, 3 or 4, the words that are needed, no line too many; whatever the arrays hold. `memory` is the count of words.
 pub fn shape_sound(
     rank: usize,
     shape: [usize; 4],
@@ -137,7 +154,7 @@ pub fn shape_sound(
     if has_zero(geo) | too_large(geo) {
         return Shaped { sound: false, geo };
     }
-    let sound = (words_needed(geo) <= memory) & (fed <= geo.lines);
+    let sound = !lopsided(rank, structure) & (words_needed(geo) <= memory) & (fed <= geo.lines);
     Shaped { sound, geo }
 }
 

@@ -21,10 +21,10 @@ use Rattle.label.proofs.CallFunctions.{FeedResult, ReadResult, doOpen, 
 use Rattle.label.proofs.Worked.{computed, frame, cross, memory, line, whole, f, begun, one, two, three, junk, wide, wideWords, put}
 use Rattle.label.proofs.Worked.{held}
 
--- ---- document 01's numbers and values
+-- ---- the documents' numbers and values
 
 numbers-right : map causeNumber (C.Rank ∷ C.StructureLength ∷ C.ZeroDimension ∷ C.TooLarge ∷ C.Memory ∷ C.Unsound ∷ C.Lines ∷ C.Cells
-    ∷ C.Length ∷ C.Kind ∷ []) ≡ 1 ∷ 2 ∷ 3 ∷ 4 ∷ 5 ∷ 6 ∷ 7 ∷ 8 ∷ 9 ∷ 10 ∷ []
+    ∷ C.Length ∷ C.Kind ∷ C.Lopsided ∷ []) ≡ 1 ∷ 2 ∷ 3 ∷ 4 ∷ 5 ∷ 6 ∷ 7 ∷ 8 ∷ 9 ∷ 10 ∷ 12 ∷ []
 numbers-right = refl
 
 openings-right : map openNumber (O.Accepted ∷ O.Refused C.Memory ∷ []) ≡ 0 ∷ 5 ∷ []
@@ -99,12 +99,13 @@ refusals-right :
     ∷ doSizes (two .session) (two .words) (replicate 3 5) .said
     -- 256 groups
     ∷ doRead u8 wide wideWords (replicate 256 5) .said
-    -- of a whole frame: 27 words; eight cells; an output of eight
+    -- of a whole frame: a structure with one arm missing, and 27 words; 27 words; eight cells; an output of eight
+    ∷ doFrame u8 frame (set cross 7 0) (replicate 27 7) (line ++ line ++ whole) junk .said
     ∷ doFrame u8 frame cross (replicate 27 7) (line ++ line ++ whole) junk .said
     ∷ doFrame u8 frame cross memory (line ++ line ++ take 2 whole) (replicate 8 5) .said
     ∷ doFrame u8 frame cross memory (line ++ line ++ whole) (replicate 8 5) .said
     ∷ []
-    ≡ map refused (6 ∷ 6 ∷ 6 ∷ 7 ∷ 7 ∷ 8 ∷ 9 ∷ 9 ∷ 10 ∷ 5 ∷ 8 ∷ 9 ∷ [])
+    ≡ map refused (6 ∷ 6 ∷ 6 ∷ 7 ∷ 7 ∷ 8 ∷ 9 ∷ 9 ∷ 10 ∷ 12 ∷ 5 ∷ 8 ∷ 9 ∷ [])
 unfolding begun one two three computed
 refusals-right = refl
 
@@ -113,6 +114,17 @@ refusals-right = refl
 -- a frame of one line of three cells, with the left byte zero, fed; it has r runs
 abbrev apart : ℕ → Session
 apart r = record { rank = 1; shape = 3 ∷ 0 ∷ 0 ∷ 0 ∷ []; structure = replicate 81 0; fed = 1; figures = record { runs = r; joins = 0 } }
+
+-- the record after two lines, with another structure
+abbrev structured : List ℕ → Session
+structured bytes =
+    record {
+      rank = 2;
+      shape = 3 ∷ 3 ∷ 0 ∷ 0 ∷ [];
+      structure = bytes ++ replicate 72 0;
+      fed = 2;
+      figures = record { runs = 4; joins = 2 };
+    }
 
 -- each breaks a clause of document 01's "Unsound, exactly", in its order, and no other unless it is said
 unsound : List (Session × List ℕ)
@@ -130,6 +142,8 @@ unsound =
     ∷ (openRecord (2147483647 ∷ []) (replicate 3 0), replicate 8589934590 0)
     ∷ (openRecord (4294967293 ∷ 0 ∷ []) cross, replicate 4294967294 0)
     ∷ (openRecord (2147483647 ∷ 2 ∷ []) cross, replicate 10737418236 0)
+    -- document 02's: a lopsided structure
+    ∷ (structured (set cross 7 0), two .words)
     -- 27 words
     ∷ (two .session, take 27 (two .words))
     -- four lines fed
@@ -184,6 +198,8 @@ accepted =
       },
       two .words,
     )
+    -- another nonzero byte on one side
+    ∷ (structured (set cross 7 255), two .words)
     -- runs 0 and 1 in one group, which no chain joins; and longer ways to a root
     ∷ (held 2 4 3, put 10 0)
     ∷ (held 2 4 3, set (put 10 0) 18 2)
@@ -191,11 +207,11 @@ accepted =
     ∷ (apart 3, 0 ∷ 3 ∷ 0 ∷ 1 ∷ 0 ∷ 7 ∷ 1 ∷ 2 ∷ 1 ∷ 7 ∷ 2 ∷ 3 ∷ 2 ∷ 7 ∷ [])
     ∷ []
 
-unsound-right : map (λ x. sound (x .0) (x .1)) unsound ≡ replicate 23 false
+unsound-right : map (λ x. sound (x .0) (x .1)) unsound ≡ replicate 24 false
 unfolding unsound begun one two computed
 unsound-right = refl
 
-accepted-right : map (λ x. sound (x .0) (x .1)) accepted ≡ replicate 12 true
+accepted-right : map (λ x. sound (x .0) (x .1)) accepted ≡ replicate 13 true
 unfolding accepted begun one two three computed
 accepted-right = refl
 

@@ -25,6 +25,7 @@ use Rattle.frame.proofs.TouchLaws.{touches-below, touches-same}
 use Rattle.frame.proofs.GrowLaws.{starts-stay, run-stays, starts-new, run-new}
 use Rattle.forest.specs.Forest.{nonRoots}
 use Rattle.forest.proofs.ForestLaws.{roots-others, roots-groups, grouping-ends}
+use Rattle.geo.proofs.ShapeSoundLaws.{shape-stays}
 use Rattle.label.specs.declared.Session.{Session}
 use Rattle.label.specs.Record.{shapeOf, structureOf, linesOf}
 use Rattle.label.specs.Sound.{Sound}
@@ -187,5 +188,5 @@ module _ (s : Session) (ws : List ℕ) (cells : List Bool) (H : Stores s ws cell
         pub sound-after : Sound s ws → Sound (feedRecord s ws k more) ws′
         unfolding feedRecord shapeOf structureOf
         sound-after S =
-            stores-sound (feedRecord s ws k more) ws′ (cells ++ more) stores-after (S .shape .ranked) (S .shape .dimensions)
-            (S .shape .limits) (rw (W .long) (S .shape .memory)) (W .parents) joins-after
+            stores-sound (feedRecord s ws k more) ws′ (cells ++ more) stores-after
+            (shape-stays _ _ _ _ (S .shape) (sym (W .long)) (stores-after .fits .below)) (W .parents) joins-after

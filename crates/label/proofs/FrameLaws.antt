@@ -43,6 +43,12 @@ module _ (kind : Number) (shape structure ws : List ℕ) (cells : List Bool) (ou
   abbrev late : ℕ
   late = frameCauseOf kind shape structure ws cells out
 
+  -- a cause that is found early stays
+  pub early-late : (c : ℕ) → early ≡ suc c → late ≡ suc c
+  unfolding earlyCauseOf frameCauseOf
+  early-late c e = frame-known shape structure (length ws) (length cells) (length out) c
+      (holds kind (groupsOf shape (allFed shape structure cells))) e
+
   -- refused before anything is written
   pub frame-refused : 0 < early → FramePromise kind shape structure ws cells out (refused early) ws out
   frame-refused h = record {
@@ -57,8 +63,7 @@ module _ (kind : Number) (shape structure ws : List ℕ) (cells : List Bool) (ou
       some = omega arith
 
       known : late ≡ suc (early - 1)
-      known = unfold frameCauseOf in frame-known shape structure (length ws) (length cells) (length out) (early - 1)
-          (holds kind (groupsOf shape (allFed shape structure cells))) (unfold earlyCauseOf in some)
+      known = early-late (early - 1) some
 
   -- refused with 10, its memory is as after feeding
   pub frame-ten : (ws′ : List ℕ) (F : FrameWords kind shape structure ws cells out ws′) → late ≡ 10 → ws′ ≡ F .fed-words
@@ -73,8 +78,8 @@ module _ (kind : Number) (shape structure ws : List ℕ) (cells : List Bool) (ou
     -- what is left is a reading's cause
     pub cause-read : late ≡ cause shape (allFed shape structure cells) (read kind out)
     unfolding cause frameCauseOf
-    cause-read = frame-reads shape structure (length ws) (length cells) (length out)
-        (holds kind (groupsOf shape (allFed shape structure cells))) (unfold earlyCauseOf in no-cause)
+    cause-read = frame-reads shape structure (length ws) (length cells) (length out) (unfold earlyCauseOf in no-cause)
+        (holds kind (groupsOf shape (allFed shape structure cells)))
 
     A : Allowed shape structure (length ws)
     A = open-accepted shape structure (length ws) (frame-facts .0)

@@ -10,6 +10,7 @@ use lib.ListN.{length, getD}
 use Rattle.frame.specs.Words.{namePlace, parentOf, nameOf}
 use Rattle.frame.proofs.SetLaws.{length-setAll, setAll-other, setAll-at}
 use Rattle.forest.specs.Forest.{nonRoots, numberIn}
+use Rattle.geo.proofs.ShapeSoundLaws.{shape-stays}
 use Rattle.label.specs.declared.Session.{Session}
 use Rattle.label.specs.Record.{linesOf}
 use Rattle.label.specs.Sound.{Sound}
@@ -56,7 +57,6 @@ module _ (s : Session) (ws : List ℕ) where
 
     pub sound-named : Sound s ws → Sound s (withNames s ws)
     sound-named S =
-        stores-sound s (withNames s ws) cells stores-named (S .shape .ranked) (S .shape .dimensions) (S .shape .limits)
-        (rw length-names (S .shape .memory))
+        stores-sound s (withNames s ws) cells stores-named (shape-stays _ _ _ _ (S .shape) (sym length-names) (S .shape .within))
         (subst (λ (p : ℕ → ℕ). (r : ℕ) → r < s .figures .runs → p r ≤ r) (sym parents-stand) (S .words .parents))
         (S .words .join-count ∙ ap (λ (p : ℕ → ℕ). nonRoots p (s .figures .runs)) (sym parents-stand))

@@ -18,6 +18,7 @@ use Rattle.frame.proofs.FrameRunLaws.{start-zero}
 use Rattle.frame.proofs.CauseLaws.{rank-right, Allowed, open-accepted}
 use Rattle.frame.proofs.PlainLaws.{kept-new}
 use Rattle.frame.proofs.EntryLaws.{entries-padded}
+use Rattle.geo.specs.Geometry.{ShapeSound}
 use Rattle.forest.specs.Forest.{nonRoots}
 use Rattle.label.specs.declared.Session.{Session}
 use Rattle.label.specs.Record.{shapeOf, structureOf}
@@ -59,10 +60,19 @@ module _ (shape structure ws : List ℕ) (A : Allowed shape structure (length ws
       long : 0 < length ws
       long = unfold wordsNeeded in omega (arith, A .enough)
 
+  opened-shaped : ShapeSound shape structure (length ws′) 0
+  opened-shaped = record {
+    ranked = A .ranked;
+    dimensions = A .dimensions;
+    limits = A .limits;
+    not-lopsided = A .not-lopsided;
+    memory = rw (length-set ws 0 0) (A .enough);
+    within = omega arith;
+  }
+
   opened-sound : Sound s ws′
   opened-sound =
-      stores-sound s ws′ [] opened-stores (rw opened-shape (A .ranked)) (rw opened-shape (A .dimensions)) (rw opened-shape (A .limits))
-      (rw (opened-shape, opened-structure, length-set ws 0 0) (A .enough))
+      stores-sound s ws′ [] opened-stores (rw (opened-shape, opened-structure) opened-shaped)
       (λ r h. absurd (not-suc-le-zero h)) (unfold nonRoots count in refl)
 
   pub opened-inv : Inv s ws′

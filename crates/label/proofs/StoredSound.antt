@@ -7,15 +7,15 @@ use Prim.Native.Nat.{ℕ, suc, _+_, _-_, _≤_, _<_}
 use native.Mathlib.Nat.{le-refl, le-trans}
 use native.Mathlib.Omega.{arith}
 use lib.ListN.{length, getD}
-use Rattle.frame.specs.Shape.{width, leading, lines}
+use Rattle.frame.specs.Shape.{width, lines}
 use Rattle.frame.specs.Structure.{leftOn}
 use Rattle.frame.specs.Runs.{Run, none, lineRuns, gapOf, lineOf, frameRuns, runsBefore, frameRun}
-use Rattle.frame.specs.Memory.{perLine, wordsNeeded}
-use Rattle.frame.specs.Causes.{badRank, hasZero, tooLarge}
+use Rattle.frame.specs.Memory.{perLine}
 use Rattle.frame.specs.Words.{lineStart, runStart, runEnd, parentOf, storedRun}
 use Rattle.frame.proofs.LineLaws.{Within}
 use Rattle.frame.proofs.FrameRunLaws.{start-zero, start-suc, start-le, run-at, Located, located, runs-few, run-within, run-order}
 use Rattle.forest.specs.Forest.{nonRoots}
+use Rattle.geo.specs.Geometry.{ShapeSound}
 use Rattle.sweep.specs.Sweeps.{InOrder}
 use Rattle.label.specs.declared.Session.{Session}
 use Rattle.label.specs.Record.{shapeOf, structureOf, linesOf}
@@ -99,12 +99,11 @@ module _ (s : Session) (ws : List ℕ) (cells : List Bool) (H : Stores s ws cell
       before : (r : ℕ) → r < lineStart ws (suc ℓ) → r < s .figures .runs
       before r high = omega (arith, there ℓ h, H .runs-are, start-le dims bytes cells (suc ℓ) (s .fed) h)
 
-  module _ (ranked : badRank dims ≡ false) (dimensions : hasZero (leading dims) ≡ false) (limits : tooLarge dims ≡ false)
-      (memory : wordsNeeded dims bytes ≤ length ws) (parents : (r : ℕ) → r < s .figures .runs → parentOf (linesOf s) ws r ≤ r)
+  module _ (shape : ShapeSound dims bytes (length ws) (s .fed)) (parents : (r : ℕ) → r < s .figures .runs → parentOf (linesOf s) ws r ≤ r)
       (join-count : s .figures .joins ≡ nonRoots (parentOf (linesOf s) ws) (s .figures .runs)) where
     pub stores-sound : Sound s ws
     stores-sound = record {
-      shape = record { ranked = ranked; dimensions = dimensions; limits = limits; memory = memory; within = H .fits .below };
+      shape = shape;
       words = record {
         first = H .starts 0 (omega arith) ∙ start-zero dims bytes cells;
         rising = starts-rise;

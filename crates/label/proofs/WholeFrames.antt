@@ -1,14 +1,17 @@
--- Whole frames: any blocks that add up to L lead to the same answer, output and words, parents aside, and to the plain session's.
+-- Whole frames: any blocks that add up to L lead to the same answer, output and words, parents aside, and to the plain session's; and an
+-- accepted one has SciPy's numbers.
 -- Assumes nothing.
-use mathlib.Core.Path.{_≡_, sym, ap, ap₂, _∙_}
+use mathlib.Core.Path.{_≡_, refl, sym, ap, ap₂, _∙_}
 use mathlib.Core.Bool.{Bool}
 use mathlib.Core.List.{List, [], _∷_, map}
-use Prim.Native.Nat.{ℕ, _-_, _*_}
+use Prim.Native.Nat.{ℕ, zero, suc, _-_, _*_}
 use native.Mathlib.Nat.{zero-add}
 use native.Mathlib.Omega.{arith}
 use lib.ListN.{length}
 use Rattle.frame.specs.Shape.{width, lines}
-use Rattle.frame.specs.ChainRule.{labels}
+use Rattle.frame.specs.ChainRule.{groupCount, labels}
+use Rattle.frame.specs.Scipy.{scipyCount, scipyLabels}
+use Rattle.frame.specs.Causes.{openCause}
 use Rattle.frame.specs.Runs.{runs}
 use Rattle.frame.specs.Kinds.{Cells, flags, Number, Value, write}
 use Rattle.frame.specs.Plain.{feed, read, Answer, fed, counted, nothing, numbers, Answered, written, unless, kept, State, opened, feeds}
@@ -16,15 +19,16 @@ use Rattle.frame.specs.Plain.{groupsOf, figures, cause, answer, answered, next,
 use Rattle.frame.specs.Lists.{sum}
 use Rattle.frame.proofs.ShapeLaws.{size-lines}
 use Rattle.frame.proofs.CauseLaws.{accepted-feed}
-use Rattle.frame.proofs.PlainLaws.{unless-none, next-feeds}
+use Rattle.frame.proofs.PlainLaws.{unless-none, kept-new, next-feeds}
+use Rattle.frame.proofs.ScipyLaws.{accepted-scipy}
 use Rattle.label.specs.declared.Session.{Session}
 use Rattle.label.specs.Opening.{openRecord, openWords}
 use Rattle.label.specs.Reading.{ReadPromise}
-use Rattle.label.specs.WholeFrame.{blocks, Fills, allFed, earlyCauseOf, FramePromise}
+use Rattle.label.specs.WholeFrame.{blocks, Fills, allFed, earlyCauseOf, frameCauseOf, FramePromise}
 use Rattle.label.proofs.BlockLaws.{sum-blocks}
 use Rattle.label.proofs.CallFunctions.{doRead}
 use Rattle.label.proofs.MeetLaws.{read-met, fills-met}
-use Rattle.label.proofs.FrameLaws.{frame-facts, cause-read, frame-blocks}
+use Rattle.label.proofs.FrameLaws.{early-late, frame-facts, cause-read, frame-blocks}
 use Rattle.label.proofs.OnlyLaws.{Alike, frame-only}
 
 -- an opening's record and words, fed in the blocks ks, and read
@@ -125,3 +129,35 @@ module _ (kind : Number) (shape structure ws : List ℕ) (out : List (Value kind
     frame-plain a ws′ out′ F =
         ap₂ (λ (x : Answered) (y : Answered). x ∷ y ∷ []) first
         (ap (λ (p : State). answered shape p (read kind out)) feed-next ∙ second a ws′ out′ F)
+
+-- ---- SciPy's description
+
+-- an accepted whole frame answers SciPy's count, and writes SciPy's labels
+module _ (kind : Number) (shape structure ws : List ℕ) (cells : List Bool) (out : List (Value kind))
+    (none : frameCauseOf kind shape structure ws cells out ≡ 0) where
+  early-none : earlyCauseOf shape structure ws cells (length out) ≡ 0
+  early-none = go (earlyCauseOf shape structure ws cells (length out)) refl
+    where
+      go : (c : ℕ) → earlyCauseOf shape structure ws cells (length out) ≡ c → earlyCauseOf shape structure ws cells (length out) ≡ 0
+      go zero e = e
+      go (suc c) e = absurd (omega (arith, early-late kind shape structure ws cells out c e, none))
+
+  opens : openCause shape structure (length ws) ≡ 0
+  opens = frame-facts kind shape structure ws cells out early-none .0
+
+  count-scipy : groupCount shape structure cells ≡ scipyCount shape structure cells
+  count-scipy = sym (accepted-scipy shape structure (length ws) opens cells .1)
+
+  labels-scipy : labels shape structure cells ≡ scipyLabels shape structure cells
+  labels-scipy = sym (accepted-scipy shape structure (length ws) opens cells .2)
+
+  pub frame-scipy : (a : Answer) (ws′ : List ℕ) (out′ : List (Value kind)) → FramePromise kind shape structure ws cells out a ws′ out′
+      → (a ≡ counted (scipyCount shape structure cells) (figures shape (allFed shape structure cells)))
+      × (out′ ≡ map (write kind) (scipyLabels shape structure cells))
+  unfolding groupsOf feeds
+  frame-scipy a ws′ out′ P = (
+    P .said ∙ unless-none (frameCauseOf kind shape structure ws cells out) _ none
+        ∙ ap (λ (n : ℕ). counted n (figures shape (allFed shape structure cells))) count-scipy,
+    P .output ∙ kept-new out (map (write kind) (labels shape structure cells)) (frameCauseOf kind shape structure ws cells out) none
+        ∙ ap (map (write kind)) labels-scipy,
+  )

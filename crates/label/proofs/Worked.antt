@@ -8,13 +8,13 @@ use Rattle.groups.specs.Groups.{merge, rep, isRoot, count, groups, joins, gathe
 use Rattle.groups.specs.Numbers.{number}
 use Rattle.frame.specs.Shape.{size, width, leading, coords}
 use Rattle.frame.specs.Structure.{offset, backward, on, leftOn}
-use Rattle.frame.specs.ChainRule.{nonzero, sameList, any, leadsBy, step, edges, groupCount, label, range, labels}
+use Rattle.frame.specs.ChainRule.{nonzero, sameList, any, leadsBy, edgesBy, edges, groupCount, label, range, labels}
 use Rattle.frame.specs.Runs.{goesOn, beginsRun, runs, stretches, singles, lineRuns, gapOf, lineOf, frameRuns, allRuns, runsBefore, frameRun}
 use Rattle.frame.specs.Touches.{reaches, used, hasNbr, nbrLine, touchesBy, touchesOf, touches}
 use Rattle.frame.specs.Kinds.{largest, holds}
 use Rattle.frame.specs.Memory.{perLine, wordsNeeded}
-use Rattle.frame.specs.Causes.{badRank, hasZero, tooLarge, firstCause, openTests, openCause, feedTests, feedCause, readTests, readCause}
-use Rattle.frame.specs.Causes.{sizesTests, sizesCause, frameTests, frameCause}
+use Rattle.frame.specs.Causes.{badRank, hasZero, tooLarge, unlike, lopsided, firstCause, openTests, openCause, feedTests, feedCause}
+use Rattle.frame.specs.Causes.{readTests, readCause, sizesTests, sizesCause, frameTests, frameCause}
 use Rattle.frame.specs.declared.Figures.{Figures}
 use Rattle.frame.specs.Plain.{unless, kept, feeds, groupsOf, figures}
 use Rattle.frame.specs.Lists.{all, every, lastBelow, entries, padded, setAll}
@@ -34,13 +34,13 @@ use Rattle.label.proofs.CallFunctions.{doFrame}
 -- what a computation opens
 unfoldable pub computed : Unit {0}
 unfolding merge rep isRoot count groups joins gather pairs visit number size width leading coords offset backward on leftOn nonzero
-    sameList any leadsBy step edges groupCount label range labels goesOn beginsRun runs stretches singles lineRuns gapOf lineOf frameRuns
-    allRuns runsBefore frameRun reaches used hasNbr nbrLine touchesBy touchesOf touches largest holds perLine wordsNeeded badRank hasZero
-    tooLarge firstCause openTests openCause feedTests feedCause readTests readCause sizesTests sizesCause frameTests frameCause unless
-    kept feeds groupsOf figures entries shapeOf structureOf setAll up rootOf own roots nonRoots numberIn grouping all every shapeSound
-    wordsSound sound lastBelow holdsCell cellsOf holderOf rootCount numberAt sizeAt padded runsAfter startAfter runAfter feedTouches
-    feedEdges feedRecord withLines withRuns feedCauseOf withNames readCauseOf sizesCauseOf earlyCauseOf frameCauseOf doOpen withParents
-    feedWords doFeed doRead doSizes frameFeed doFrame zipWith
+    sameList any leadsBy edgesBy edges groupCount label range labels goesOn beginsRun runs stretches singles lineRuns gapOf lineOf
+    frameRuns allRuns runsBefore frameRun reaches used hasNbr nbrLine touchesBy touchesOf touches largest holds perLine wordsNeeded
+    badRank hasZero tooLarge unlike lopsided firstCause openTests openCause feedTests feedCause readTests readCause sizesTests sizesCause
+    frameTests frameCause unless kept feeds groupsOf figures entries shapeOf structureOf setAll up rootOf own roots nonRoots numberIn
+    grouping all every shapeSound wordsSound sound lastBelow holdsCell cellsOf holderOf rootCount numberAt sizeAt padded runsAfter
+    startAfter runAfter feedTouches feedEdges feedRecord withLines withRuns feedCauseOf withNames readCauseOf sizesCauseOf earlyCauseOf
+    frameCauseOf doOpen withParents feedWords doFeed doRead doSizes frameFeed doFrame zipWith
 computed = tt
 
 -- ---- document 01's frame 1, fed line by line

@@ -49,6 +49,18 @@ opens-anyway : (n : ℕ) (s : Session) → OpenPromise frame cross (replicate 27
 unfolding computed
 opens-anyway n s P = let z : _≡_ {A = ℕ} 0 7 = ap (word 0) (P .words) in omega arith
 
+-- it takes a structure with one arm missing; it looks for that after the count of words
+armless : List ℕ
+armless = set cross 7 0
+
+takes-lopsided : (s : Session) (ws : List ℕ) → OpenPromise frame armless memory 0 s ws → ⊥
+unfolding armless computed
+takes-lopsided s ws P = let z : _≡_ {A = ℕ} 0 12 = P .said in omega arith
+
+words-before-structure : (s : Session) (ws : List ℕ) → OpenPromise frame armless (replicate 27 7) 5 s ws → ⊥
+unfolding armless computed
+words-before-structure s ws P = let z : _≡_ {A = ℕ} 5 12 = P .said in omega arith
+
 -- feeds: the second line, and the third
 
 abbrev Second : Answer → Session → List ℕ → Type 0
@@ -66,6 +78,24 @@ first-only a s P = let z : _≡_ {A = ℕ} 2 0 = P .accepted refl .grouped 2 (om
 unites-all : (a : Answer) (s : Session) → Second a s (set (put 10 0) 18 0) → ⊥
 unfolding begun one two computed
 unites-all a s P = let z : _≡_ {A = ℕ} 0 1 = P .accepted refl .grouped 1 (omega arith) in omega arith
+
+-- it feeds a record that holds a lopsided structure; it answers that one's feed by 12
+abbrev Armless : Answer → Session → List ℕ → Type 0
+Armless = FeedPromise (record {
+  rank = one .session .rank;
+  shape = one .session .shape;
+  structure = set (one .session .structure) 7 0;
+  fed = one .session .fed;
+  figures = one .session .figures;
+}) (one .words) 1 line
+
+feeds-lopsided : (l : ℕ) (g : Figures) (s : Session) (ws : List ℕ) → Armless (fed l g) s ws → ⊥
+unfolding begun one computed
+feeds-lopsided l g s ws P = let z : _≡_ {A = ℕ} 0 6 = ap numberSaid (P .said) in omega arith
+
+twelve-of-a-feed : (s : Session) (ws : List ℕ) → Armless (refused 12) s ws → ⊥
+unfolding begun one computed
+twelve-of-a-feed s ws P = let z : _≡_ {A = ℕ} 12 6 = ap numberSaid (P .said) in omega arith
 
 -- it stores nothing in the record; nothing in the words
 stores-nothing : (a : Answer) (ws : List ℕ) → Second a (one .session) ws → ⊥

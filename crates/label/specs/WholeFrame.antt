@@ -44,7 +44,7 @@ pub data Fills (w : ℕ) : Session → List ℕ → List ℕ → List Bool → S
 abbrev pub allFed : List ℕ → List ℕ → List Bool → State
 allFed shape structure cells = feeds (opened structure) (lines shape) cells
 
--- 1 to 5, 8, 9, or 0: what is known before anything is written, where `out` is the count of output places
+-- an opening's cause, 8, 9, or 0: what is known before anything is written, where `out` is the count of output places
 unfoldable pub earlyCauseOf : List ℕ → List ℕ → List ℕ → List Bool → ℕ → ℕ
 earlyCauseOf shape structure ws cells out = frameCause shape structure (length ws) (length cells) out true
 

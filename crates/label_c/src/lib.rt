@@ -8,7 +8,7 @@
 //     label_sizes           each number's cell count
 //     label_frame_C_N       a whole frame, for each kind of cell and of number
 //
-// A slice is a pointer and a count in C. A call returns 0 where it is accepted, else document 01's number, or 100 where the record or the
+// A slice is a pointer and a count in C. A call returns 0 where it is accepted, else the documents' number, or 100 where the record or the
 // answer is too short. 100 is looked for first, then a structure word that is no byte (6); only then is the call itself made.
 ghost use mathlib.Core.Path.{_≡_};
 ghost use Rattle.frame.specs.Kinds.{nz, nzℤ, nzF, u8, u16, u32};

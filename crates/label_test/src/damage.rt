@@ -1,5 +1,5 @@
-// Damaged records and memories: one field or word changed so that a clause of document 01's "Unsound, exactly" holds. A feed, a
-// reading and a size call that would be accepted must then get 6 and leave record, words and output as they were.
+// Damaged records and memories: one field or word changed so that a clause of document 01's "Unsound, exactly" holds, or the structure made
+// lopsided. A feed, a reading and a size call that would be accepted must then get 6 and leave record, words and output as they were.
 use flood::Extent;
 use flood::get;
 use flood::layout;
@@ -14,15 +14,19 @@ use samples::tally;
 use trial::answers;
 use trial::answers::Done;
 
-// The damages: of the record, then of the line starts, then of a run, then the shorter memory. The last is none, for which the calls are
-// accepted.
-const RECORD: usize = 10;
+// The damages: of the record, of which the last is its structure's, then of the line starts, then of a run, then the shorter memory. The
+// last is none, for which the calls are accepted.
+const STRUCTURE: usize = 10;
 
-const CROWDED: usize = 13;
+const LINES: usize = 11;
 
-const SHORTER: usize = 22;
+const CROWDED: usize = 14;
 
-const NONE: usize = 23;
+const RUNS: usize = 15;
+
+const SHORTER: usize = 23;
+
+const NONE: usize = 24;
 
 // ---- records
 
@@ -54,6 +58,13 @@ fn damage_shape(shape: [usize; 4], rank: usize, d: usize) -> [usize; 4] {
     s
 }
 
+fn damage_structure(structure: [u8; 81], rank: usize, d: usize, x: u64) -> [u8; 81] {
+    if d == STRUCTURE {
+        return samples::lopsided(structure, samples::power3(rank), x);
+    }
+    structure
+}
+
 fn damage_figures(figures: frame::Figures, d: usize) -> frame::Figures {
     frame::Figures {
         runs: less(plus(figures.runs, (d == 6) as usize), (d == 7) as usize),
@@ -61,13 +72,13 @@ fn damage_figures(figures: frame::Figures, d: usize) -> frame::Figures {
     }
 }
 
-fn damage_record(session: Session, lines: usize, d: usize) -> Session {
+fn damage_record(session: Session, lines: usize, d: usize, x: u64) -> Session {
     let shape = session.shape;
     let structure = session.structure;
     Session {
         rank: damage_rank(session.rank, d),
         shape: damage_shape(shape, session.rank, d),
-        structure,
+        structure: damage_structure(structure, session.rank, d, x),
         fed: if d == 5 { plus(lines, 1) } else { session.fed },
         figures: damage_figures(session.figures, d),
     }
@@ -75,7 +86,7 @@ fn damage_record(session: Session, lines: usize, d: usize) -> Session {
 
 // Whether damage d breaks a clause on a record of this rank: a leading dimension of 0 or too large needs one.
 fn breaks_record(rank: usize, d: usize) -> bool {
-    (d < RECORD) & !((rank == 1) & ((d == 2) | (d == 3)))
+    (d < LINES) & !((rank == 1) & ((d == 2) | (d == 3)))
 }
 
 // ---- words
@@ -87,26 +98,26 @@ fn change(words: &mut [u32], at: usize, x: usize) -> bool {
     word(x) != before
 }
 
-// Of the line starts: word 0; a start below the one before; the last not the count of runs.
+// Of the line starts: 0, word 0; 1, a start below the one before; 2, the last not the count of runs.
 fn line_place(line: usize, fed: usize, d: usize) -> usize {
     match d {
-        10 => 0,
-        11 => line,
+        0 => 0,
+        1 => line,
         _ => fed,
     }
 }
 
 fn line_value(before: usize, runs: usize, d: usize) -> usize {
     match d {
-        10 => 1,
-        11 => less(before, 1),
+        0 => 1,
+        1 => less(before, 1),
         _ => plus(runs, 1),
     }
 }
 
 fn damage_lines(words: &mut [u32], fed: usize, runs: usize, line: usize, d: usize) -> bool {
     let before = get(words, less(line, 1)) as usize;
-    let breaks = (d != 11) | ((before > 0) & (line <= fed));
+    let breaks = (d != 1) | ((before > 0) & (line <= fed));
     breaks & change(words, line_place(line, fed, d), line_value(before, runs, d))
 }
 
@@ -126,27 +137,27 @@ fn line_mates(words: &[u32], fed: usize, r: usize) -> bool {
     mates
 }
 
-// Of a run, from 14 on: its start not below its end; its end past the width; the next run of the line over it, or before it, or touching
-// it; longer than one cell; its parent above it; a root that is none, or a run that is made a root.
+// Of a run: 0, its start not below its end; 1, its end past the width; 2 to 4, the next run of the line over it, or before it, or touching
+// it; 5, longer than one cell; 6, its parent above it; 7, a root that is none, or a run that is made a root.
 fn run_place(d: usize) -> usize {
     match d {
-        14 => 0,
-        15 => 1,
-        16..=18 => 4,
-        19 => 1,
+        0 => 0,
+        1 => 1,
+        2..=4 => 4,
+        5 => 1,
         _ => 2,
     }
 }
 
 fn run_value(r: usize, start: usize, end: usize, parent: usize, width: usize, d: usize) -> usize {
     match d {
-        14 => end,
-        15 => plus(width, 1),
-        16 => less(end, 1),
-        17 => 0,
-        18 => end,
-        19 => plus(start, 2),
-        20 => plus(r, 1),
+        0 => end,
+        1 => plus(width, 1),
+        2 => less(end, 1),
+        3 => 0,
+        4 => end,
+        5 => plus(start, 2),
+        6 => plus(r, 1),
         _ => less(r, (parent == r) as usize),
     }
 }
@@ -155,11 +166,11 @@ fn run_value(r: usize, start: usize, end: usize, parent: usize, width: usize, d:
 // can get another parent.
 fn breaks_run(mates: bool, left: bool, other: bool, d: usize) -> bool {
     match d {
-        16 => mates,
-        17 => mates,
-        18 => mates & left,
-        19 => !left,
-        21 => other,
+        2 => mates,
+        3 => mates,
+        4 => mates & left,
+        5 => !left,
+        7 => other,
         _ => true,
     }
 }
@@ -178,17 +189,17 @@ fn damage_run(words: &mut [u32], e: Extent, fed: usize, runs: usize, r: usize, d
 fn damage_words(words: &mut [u32], e: Extent, session: Session, d: usize, x: u64) -> bool {
     let runs = session.figures.runs;
     let fed = session.fed;
-    if (d < RECORD) | (d >= SHORTER) {
+    if (d < LINES) | (d >= SHORTER) {
         return false;
     }
     if d < CROWDED {
-        return damage_lines(words, fed, runs, plus(below(x, fed), 1), d);
+        return damage_lines(words, fed, runs, plus(below(x, fed), 1), less(d, LINES));
     }
     if d == CROWDED {
         crowd(words, fed);
         return runs > layout::most_runs(e);
     }
-    damage_run(words, e, fed, runs, below(x, runs), d)
+    damage_run(words, e, fed, runs, below(x, runs), less(d, RUNS))
 }
 
 // ---- the calls
@@ -249,7 +260,7 @@ fn try_damage(
     }
     let kept = bad;
     let memory = less(layout::words_needed(e), (d == SHORTER) as usize);
-    let s = damage_record(session, e.lines, d);
+    let s = damage_record(session, e.lines, d, tally::random(state));
     call_all(
         s,
         samples::lend_u32(&mut bad, memory),
@@ -263,7 +274,7 @@ fn try_damage(
 }
 
 fn try_damages(session: Session, e: Extent, words: [u32; 3201], n: usize, state: &mut [u64; 40]) {
-    for d in 0..24 {
+    for d in 0..25 {
         try_damage(session, e, words, n, d, state);
     }
 }

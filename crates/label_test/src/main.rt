@@ -46,6 +46,7 @@ fn report(state: &[u64; 40]) {
         b"refused 6: #\nrefused 7: #\nrefused 8: #\nrefused 9: #\nrefused 10: #\n",
         30,
     );
+    tally::report(state, b"refused 12: #\n", tally::REFUSED_12);
     tally::report(state, b"differed=#\n", tally::DIFFERED);
 }
 

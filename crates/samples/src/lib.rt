@@ -166,15 +166,14 @@ fn moves(o: flood::Offset) -> usize {
     plus(a, b)
 }
 
-// 0: all ones; 1: faces; 2: many; 3: few; 4: many, the same either way. The entry is behind the middle one or not, and has that offset.
-fn structure_byte(mode: u64, behind: bool, o: flood::Offset, x: u64, mirrored: u8) -> u8 {
+// 0: all ones; 1: faces; 2: many; 3: few. The entry is not behind the middle one, and has that offset.
+fn structure_byte(mode: u64, o: flood::Offset, x: u64) -> u8 {
     let drawn = x % 12;
     match mode {
         0 => 1,
         1 => (moves(o) < 2) as u8,
         2 => (drawn < 6) as u8,
-        3 => ((drawn < 2) as u8) << 7,
-        _ => { if behind { mirrored } else { (drawn < 5) as u8 } }
+        _ => ((drawn < 2) as u8) << 7,
     }
 }
 
@@ -187,24 +186,46 @@ fn left_byte(before: u8, x: u64) -> u8 {
     }
 }
 
-// The first `count` bytes are the structure, an odd number.
-fn make_structure(structure: &mut [u8], count: usize, x: u64) {
+// The byte opposite another: zero or nonzero as that one is, and of any value.
+fn opposite_byte(other: u8, x: u64) -> u8 {
+    if other == 0 { 0 } else { (x % 255) as u8 + 1 }
+}
+
+// The bytes up to the middle one.
+fn make_half(structure: &mut [u8], count: usize, x: u64) {
     let middle = count / 2;
     let left = less(middle, 1);
     let mut y = x;
     let mut o = flood::first_offset(count);
-    for i in 0..count {
+    for i in 0..plus(middle, 1) {
         y = next(y);
-        let mirrored = byte(structure, less(less(count, 1), i));
-        put_byte(
-            structure,
-            i,
-            structure_byte(x % 5, i > middle, o, y, mirrored),
-        );
+        put_byte(structure, i, structure_byte(x % 4, o, y));
         o = flood::next_offset(o);
     }
     let before = byte(structure, left);
     put_byte(structure, left, left_byte(before, next(y)));
+}
+
+// The first `count` bytes, an odd number, are the structure, symmetric about the middle one.
+fn make_structure(structure: &mut [u8], count: usize, x: u64) {
+    make_half(structure, count, x);
+    let mut y = next(x);
+    for i in 0..count / 2 {
+        y = next(y);
+        let other = byte(structure, i);
+        put_byte(structure, less(less(count, 1), i), opposite_byte(other, y));
+    }
+}
+
+// A symmetric structure of so many bytes made lopsided: one of a pair is set or cleared.
+pub fn lopsided(structure: [u8; 81], count: usize, x: u64) -> [u8; 81] {
+    let mut s = structure;
+    let drawn = below(x, less(count, 1));
+    let at = plus(drawn, (drawn >= count / 2) as usize);
+    if at < 81 {
+        s[at] = if s[at] == 0 { 1 } else { 0 };
+    }
+    s
 }
 
 // ---- cells

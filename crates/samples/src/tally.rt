@@ -23,6 +23,8 @@ pub const WIDTHS: usize = 20;
 // One for each refusal's number; 0 is for what was accepted.
 pub const REFUSED: usize = 24;
 
+pub const REFUSED_12: usize = 36;
+
 // Counted here is what is not printed.
 pub const OTHER: usize = 39;
 

@@ -4,7 +4,7 @@ use flood::less;
 use frame::Figures;
 use label::Session;
 
-// Document 01's number, or 0; lines fed or n; and the figures. Zeros where refused.
+// The documents' number, or 0; lines fed or n; and the figures. Zeros where refused.
 pub struct Answer {
     pub number: usize,
     pub count: usize,

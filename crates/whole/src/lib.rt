@@ -6,10 +6,10 @@
 // What it promises is `FramePromise`, in label's specs/WholeFrame.antt: by equation the answer, every word and every output place,
 // refusals too. The block count stands in no promise: it changes no answer.
 //
-// A pair of kinds is two calls. feed_frame_C finds causes 1 to 5, 8 and 9 before anything is written, word 0 included; where there is none,
-// it writes word 0 and feeds the lines block by block. number_N passes a refusal on; else it compares n with the kind's largest number
-// (cause 10: the output stands) and writes names and numbers. What has just been written is not checked for soundness again: it is
-// proved sound.
+// A pair of kinds is two calls. feed_frame_C finds an opening's causes, 8 and 9 before anything is written, word 0 included; where there
+// is none, it writes word 0 and feeds the lines block by block. number_N passes a refusal on; else it compares n with the kind's largest
+// number (cause 10: the output stands) and writes names and numbers. What has just been written is not checked for soundness again: it
+// is proved sound.
 ghost use mathlib.Core.Path.{_≡_};
 ghost use mathlib.Core.List.{map};
 ghost use Prim.Native.Nat.{_<_, min, max};

@@ -19,6 +19,7 @@ impl List {
     fn add<C: Cell, N: Number>(&mut self, blocks: usize, shape: &[usize], structure: &[u8], codes: &[u8]) {
         let cells: Vec<C> = codes.iter().map(|&c| C::coded(c)).collect();
         let mut out: Vec<N> = cells.iter().map(|_| N::filled(&mut self.r)).collect();
+        assert!(symmetric(structure), "a lopsided structure: {structure:?}");
         let n = reference::label_impl(shape, structure, &cells, &mut out, 1);
         let mut line = format!("{} {} {blocks} {}", C::NAME, N::NAME, shape.len());
         for d in shape {
@@ -99,20 +100,20 @@ impl List {
             (&[2, 2], b"111111111", b"1001"),
             (&[2, 3], b"101000101", b"111111"),
             (&[3], b"010", b"111"),
-            (&[3], b"100", b"111"),
-            (&[3], b"001", b"111"),
-            (&[2, 2], b"110000000", b"0110"),
-            (&[2, 2], b"110000000", b"1001"),
-            (&[2, 4], b"100100000", b"10100111"),
+            (&[3], b"101", b"111"),
+            (&[3], b"000", b"111"),
+            (&[2, 2], b"110000011", b"0110"),
+            (&[2, 2], b"110000011", b"1001"),
+            (&[2, 4], b"100101001", b"10100111"),
             (&[2, 0], b"010111010", b""),
         ];
         for (shape, s, cells) in plane {
             let s: Vec<u8> = s.iter().map(|b| b - b'0').collect();
             self.add::<C, N>(1, shape, &s, cells);
         }
-        let one = |k: usize| (0..27).map(|i| (i == k) as u8).collect::<Vec<u8>>();
-        self.add::<C, N>(2, &[2, 2, 1], &one(10), b"0110");
-        self.add::<C, N>(2, &[2, 2, 1], &one(4), b"1010");
+        let pair = |k: usize| (0..27).map(|i| (i == k || i == 26 - k) as u8).collect::<Vec<u8>>();
+        self.add::<C, N>(2, &[2, 2, 1], &pair(10), b"0110");
+        self.add::<C, N>(2, &[2, 2, 1], &pair(4), b"1010");
         self.add::<C, N>(2, &[2, 1, 2], &[1; 27], b"1001");
         self.add::<C, N>(2, &[2, 1, 2], &cross(3), b"1001");
     }

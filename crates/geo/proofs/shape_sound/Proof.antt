@@ -4,6 +4,7 @@ use borrow.Author.Needs.{needs}
 use mathlib.Core.Path.{sym, ap₂, _∙_}
 use mathlib.Core.Bool.{_||_, true≢false}
 use denote.Ref.{now}
+use Rattle.geo.proofs.DimsLaws.{rank-limits}
 use Rattle.geo.proofs.ShapeSoundLaws.{rank-test, array-ready, rank-breaks, dims-break, found-limits, found-geo, rest-decides}
 use Rattle.geo.proofs.shape_sound.Statement.{statement}
 use Rattle.geo.proofs.shape_sound.Tie as tie
@@ -47,26 +48,36 @@ returns-2 c =
       geometry = λ t. absurd (true≢false (sym t));
     }
 
+lopsided-requires : tie.Need-lopsided-requires
+lopsided-requires c κs =
+    let d = c .before in
+    let s = d .before .before .before .before .before .before .before in
+    let ranked = rank-test (s .args .rank) (s .args .shape) _ _ (d .before .before .before .before .before .before .bad-rank .ensures)
+    (d .before .before .before .before .before .if1 .left) in
+    let few = rank-limits (s .args .rank) (s .args .shape) ranked in
+    (few .0, few .1, array-ready (s .args .rank) (s .args .shape) (now (s .args .structure)) (search needs) ranked .bytes)
+
 words-needed-requires : tie.Need-words-needed-requires
 words-needed-requires c κs =
-    let s = c .before .before .before .before .before .before .before in
-    let ranked = rank-test (s .args .rank) (s .args .shape) _ _ (c .before .before .before .before .before .before .bad-rank .ensures)
-    (c .before .before .before .before .before .if1 .left) in
-    let g = c .before .before .before .geo-of in
+    let d = c .before .before in
+    let s = d .before .before .before .before .before .before .before in
+    let ranked = rank-test (s .args .rank) (s .args .shape) _ _ (d .before .before .before .before .before .before .bad-rank .ensures)
+    (d .before .before .before .before .before .if1 .left) in
+    let g = d .before .before .before .geo-of in
     found-limits (s .args .rank) (s .args .shape) (now (s .args .structure)) ranked (g .result) (g .ensures) (s .args .memory)
-    (s .args .fed) (sym (ap₂ _||_ (c .before .before .has-zero .ensures) (c .before .too-large .ensures)) ∙ c .if2 .left)
+    (s .args .fed) (sym (ap₂ _||_ (d .before .before .has-zero .ensures) (d .before .too-large .ensures)) ∙ d .if2 .left)
 
 returns-3 : tie.Need-returns-3
 returns-3 c =
-    let s = c .before .before .before .before .before .before .before .before .before in
-    let d = c .before .before in
+    let d = c .before .before .before .before in
+    let s = d .before .before .before .before .before .before .before in
     let ranked = rank-test (s .args .rank) (s .args .shape) _ _ (d .before .before .before .before .before .before .bad-rank .ensures)
     (d .before .before .before .before .before .if1 .left) in
     let g = d .before .before .before .geo-of in
     let none = sym (ap₂ _||_ (d .before .before .has-zero .ensures) (d .before .too-large .ensures)) ∙ d .if2 .left in
     record {
       told = rest-decides (s .args .rank) (s .args .shape) (now (s .args .structure)) ranked (g .result) (g .ensures) (s .args .memory)
-          (s .args .fed) none (c .before .words-needed .result) (c .before .words-needed .ensures);
+          (s .args .fed) none _ (c .before .before .lopsided .ensures) _ (c .before .words-needed .ensures);
       geometry = λ t. found-geo (s .args .rank) (s .args .shape) (now (s .args .structure)) ranked (g .result) (g .ensures)
           (s .args .memory) (s .args .fed) none;
     }
@@ -82,5 +93,6 @@ shape-sound-spec =
     has-zero-requires
     too-large-requires
     returns-2
+    lopsided-requires
     words-needed-requires
     returns-3)

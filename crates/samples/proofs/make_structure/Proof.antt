@@ -8,40 +8,37 @@ use Rattle.samples.proofs.make_structure.Statement.{statement}
 use Rattle.samples.proofs.make_structure.Tie as tie
 
 abbrev Inv-loop : tie.InvT-loop
-Inv-loop structure₀ count x middle left y₀ o₀ i₀ structure y o i = length structure ≡ length structure₀
+Inv-loop structure₀ count x y₀ i₀ i-end structure y i = length structure ≡ length structure₀
 
 abbrev μ-loop : tie.MeasureT-loop
-μ-loop structure₀ count x middle left y₀ o₀ i₀ structure y o i = count - i
+μ-loop structure₀ count x y₀ i₀ i-end structure y i = i-end - i
 
-less-requires : tie.Need-less-requires Inv-loop μ-loop
-less-requires c κs = search needs
-
-first-offset-requires : tie.Need-first-offset-requires Inv-loop μ-loop
-first-offset-requires c κs = search needs
-
-loop-holds : tie.Need-loop-holds Inv-loop μ-loop
-loop-holds c = search needs
+make-half-requires : tie.Need-make-half-requires Inv-loop μ-loop
+make-half-requires c κs = search needs
 
 next-requires : tie.Need-next-requires Inv-loop μ-loop
 next-requires c κs = search needs
 
-less-requires-2 : tie.Need-less-requires-2 Inv-loop μ-loop
-less-requires-2 c κs = search needs
+loop-holds : tie.Need-loop-holds Inv-loop μ-loop
+loop-holds c = search needs
 
-less-requires-3 : tie.Need-less-requires-3 Inv-loop μ-loop
-less-requires-3 c κs = search needs
+next-requires-2 : tie.Need-next-requires-2 Inv-loop μ-loop
+next-requires-2 c κs = search needs
 
 byte-requires : tie.Need-byte-requires Inv-loop μ-loop
 byte-requires c κs = search needs
 
-structure-byte-requires : tie.Need-structure-byte-requires Inv-loop μ-loop
-structure-byte-requires c κs = search needs
+less-requires : tie.Need-less-requires Inv-loop μ-loop
+less-requires c κs = search needs
+
+less-requires-2 : tie.Need-less-requires-2 Inv-loop μ-loop
+less-requires-2 c κs = search needs
+
+opposite-byte-requires : tie.Need-opposite-byte-requires Inv-loop μ-loop
+opposite-byte-requires c κs = search needs
 
 put-byte-requires : tie.Need-put-byte-requires Inv-loop μ-loop
 put-byte-requires c κs = search needs
-
-next-offset-requires : tie.Need-next-offset-requires Inv-loop μ-loop
-next-offset-requires c κs = search needs
 
 add-i : tie.Need-add-i Inv-loop μ-loop
 add-i c = search needs
@@ -51,18 +48,6 @@ loop-less c = search needs
 
 loop-again : tie.Need-loop-again Inv-loop μ-loop
 loop-again c = search needs
-
-byte-requires-2 : tie.Need-byte-requires-2 Inv-loop μ-loop
-byte-requires-2 c κs = search needs
-
-next-requires-2 : tie.Need-next-requires-2 Inv-loop μ-loop
-next-requires-2 c κs = search needs
-
-left-byte-requires : tie.Need-left-byte-requires Inv-loop μ-loop
-left-byte-requires c κs = search needs
-
-put-byte-requires-2 : tie.Need-put-byte-requires-2 Inv-loop μ-loop
-put-byte-requires-2 c κs = search needs
 
 same-length : tie.Need-same-length Inv-loop μ-loop
 same-length c = search needs
@@ -76,22 +61,17 @@ make-structure-spec =
     (tie.spec
     Inv-loop
     μ-loop
-    less-requires
-    first-offset-requires
-    loop-holds
+    make-half-requires
     next-requires
-    less-requires-2
-    less-requires-3
+    loop-holds
+    next-requires-2
     byte-requires
-    structure-byte-requires
+    less-requires
+    less-requires-2
+    opposite-byte-requires
     put-byte-requires
-    next-offset-requires
     add-i
     loop-less
     loop-again
-    byte-requires-2
-    next-requires-2
-    left-byte-requires
-    put-byte-requires-2
     same-length
     returns)

@@ -1,15 +1,16 @@
 // This repository's calls beside the Rust's label_impl: the same frames to both, and every answer held against the other. Build and run it by
-// compare/frames. What it compares is told where it is done: here, small.rs, large.rs, refusals.rs, session.rs.
+// compare/frames. What it compares is told where it is done: here, small.rs, large.rs, lopsided.rs, refusals.rs, session.rs.
 #[path = "../../ours.rs"]
 #[macro_use]
 mod ours;
 mod large;
+mod lopsided;
 mod one;
 mod refusals;
 mod session;
 mod small;
 
-use drivers::frames::{Frame, below, lines};
+use drivers::frames::{Frame, below, lines, make_lopsided};
 use drivers::random::Random;
 use drivers::tally::Tally;
 use one::{Fault, compare};
@@ -20,13 +21,17 @@ const SEED: u64 = 0x2545_f491_4f6c_dd1d;
 const FRAMES: usize = 240_000;
 const THREADS: [usize; 4] = [1, 2, 3, 8];
 
-/// One random frame, for every block count if its lines are few.
+/// One random frame, for every block count if its lines are few. One in four is tried for 12 besides, made lopsided.
 fn random_frame<C: Labels<N>, N: Reads>(t: &mut Tally, r: &mut Random, rank: usize, threads: usize, fault: Fault) {
-    let f = Frame::<C>::random(r, rank);
+    let mut f = Frame::<C>::random(r, rank);
     let l = lines(&f.shape);
     let blocks: Vec<usize> = if l <= 12 { (0..=l + 1).collect() } else { (0..3).map(|_| below(r, l + 2)).collect() };
     let core = below(r, 8) == 0;
     compare::<C, N>(t, r, &f, threads, &blocks, core, fault);
+    if below(r, 4) == 0 {
+        make_lopsided(r, &mut f.structure);
+        lopsided::refused::<C, N>(t, r, &f, fault);
+    }
 }
 
 fn random_frames(t: &mut Tally, r: &mut Random, frames: usize, fault: Fault) {
@@ -60,7 +65,7 @@ fn main() {
         part(&mut t, &mut r, frames, fault);
         eprintln!("{name}: {:.1} s, {} differed", start.elapsed().as_secs_f64(), t.differed - before);
     }
-    println!("seed {seed}; {} frames", t.count("frames, by rank"));
+    println!("seed {seed}; {} frames, and {} tried for 12", t.count("frames, by rank"), t.count(lopsided::TRIED));
     t.print();
     std::process::exit((t.differed > 0) as i32);
 }

@@ -1,7 +1,7 @@
 //! One frame, given to both.
 
 use crate::ours::{ANSWER, Labels, Reads};
-use drivers::frames::{Frame, below, lines, size};
+use drivers::frames::{Frame, below, lines, symmetric};
 use drivers::kinds::{Cell, Number};
 use drivers::lent::Lent;
 use drivers::plain::{Did, Runs, left_byte, runs, words_differ, words_needed};
@@ -58,43 +58,62 @@ pub fn theirs<C: Cell, N: Number>(f: &Frame<C>, mut out: Vec<N>, threads: usize,
     Theirs { n: n.expect("arrays of kinds that the Rust takes"), out }
 }
 
-/// What is lent to a whole frame, and what it returned.
-struct Ours<N> {
-    number: u32,
+/// The arguments of a call, lengths and all.
+pub struct Call<'a, C> {
+    pub shape: &'a [usize],
+    pub structure: &'a [u8],
+    pub cells: &'a [C],
+    pub places: usize,
+    pub room: usize,
+    pub answer: usize,
+}
+
+impl<C> Call<'_, C> {
+    /// Our whole frame on them.
+    pub fn frame<N: Reads>(&self, r: &mut Random, blocks: usize) -> Ours<N>
+    where
+        C: Labels<N>,
+    {
+        let mut words = Lent::new(self.room, || r.next() as u32);
+        let mut out = Lent::new(self.places, || N::filled(r));
+        let mut answer = Lent::new(self.answer, || r.next());
+        let (shape, structure, cells) = (self.shape, self.structure, self.cells);
+        // SAFETY: each pointer is good for its count
+        let number = unsafe {
+            C::FRAME(
+                shape.as_ptr(),
+                shape.len(),
+                structure.as_ptr(),
+                structure.len(),
+                words.pointer(),
+                self.room,
+                cells.as_ptr(),
+                cells.len(),
+                out.pointer(),
+                self.places,
+                blocks,
+                answer.pointer(),
+                self.answer,
+            )
+        };
+        Ours { number, words, out, answer }
+    }
+}
+
+/// What was lent to a whole frame, and what it returned.
+pub struct Ours<N> {
+    pub number: u32,
     words: Lent<u32>,
     out: Lent<N>,
     answer: Lent<u64>,
 }
 
 impl<N: Reads> Ours<N> {
-    fn call<C: Labels<N>>(r: &mut Random, f: &Frame<C>, blocks: usize) -> Ours<N> {
-        let room = words_needed(&f.shape, &f.structure) + below(r, 3);
-        let mut words = Lent::new(room, || r.next() as u32);
-        let mut out = Lent::new(size(&f.shape), || N::filled(r));
-        let places = ANSWER + below(r, 2);
-        let mut answer = Lent::new(places, || r.next());
-        // SAFETY: each pointer is good for its count
-        let number = unsafe {
-            C::FRAME(
-                f.shape.as_ptr(),
-                f.shape.len(),
-                f.structure.as_ptr(),
-                f.structure.len(),
-                words.pointer(),
-                room,
-                f.cells.as_ptr(),
-                f.cells.len(),
-                out.pointer(),
-                out.len(),
-                blocks,
-                answer.pointer(),
-                places,
-            )
-        };
-        Ours { number, words, out, answer }
+    pub fn stands(&self) -> bool {
+        self.words.stands() && self.out.stands() && self.answer.stands()
     }
 
-    fn spoil(&mut self, fault: Fault) {
+    pub fn spoil(&mut self, fault: Fault) {
         match fault {
             Fault::No => {}
             Fault::Label => {
@@ -115,7 +134,10 @@ impl<N: Reads> Ours<N> {
 
 /// What differs between ours, with this block count, and theirs. `labels` are the numbers in a kind that always holds them.
 fn differs<C: Labels<N>, N: Reads>(r: &mut Random, f: &Frame<C>, blocks: usize, theirs: &Theirs<N>, labels: &[u32], runs: &Runs, fault: Fault) -> Option<String> {
-    let mut o = Ours::<N>::call(r, f, blocks);
+    let room = words_needed(&f.shape, &f.structure) + below(r, 3);
+    let answer = ANSWER + below(r, 2);
+    let call = Call { shape: &f.shape, structure: &f.structure, cells: &f.cells, places: f.cells.len(), room, answer };
+    let mut o = call.frame::<N>(r, blocks);
     o.spoil(fault);
     if !o.words.edges_stand() || !o.out.edges_stand() || !o.answer.edges_stand() {
         return Some("an entry beside the memory lent was written".into());
@@ -146,6 +168,7 @@ fn differs<C: Labels<N>, N: Reads>(r: &mut Random, f: &Frame<C>, blocks: usize, 
 
 /// The first difference for one of the block counts.
 fn difference<C: Labels<N>, N: Reads>(r: &mut Random, f: &Frame<C>, threads: usize, blocks: &[usize], core: bool, fault: Fault) -> (bool, Option<String>) {
+    assert!(symmetric(&f.structure), "a lopsided structure: {:?}", f.structure);
     let before: Vec<N> = f.cells.iter().map(|_| N::filled(r)).collect();
     let theirs = theirs(f, before.clone(), threads, core);
     if theirs.n.is_none() && theirs.out != before {

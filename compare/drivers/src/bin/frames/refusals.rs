@@ -1,25 +1,15 @@
 //! Calls that are refused: what ours returns is held to document 01, and nothing that was lent may change. What the Rust does with the same
 //! arguments is counted; where document 01 says that it declines, it must.
 
-use crate::one::{Fault, compare, theirs};
+use crate::one::{Call, Fault, compare, theirs};
 use crate::ours::{ANSWER, Labels, Reads, label_open};
 use crate::THREADS;
-use drivers::frames::{Frame, below, lines, size};
+use drivers::frames::{Frame, below, lines, make_lopsided, size};
 use drivers::lent::Lent;
 use drivers::plain::words_needed;
 use drivers::random::Random;
 use drivers::tally::Tally;
 use std::panic::{AssertUnwindSafe, catch_unwind};
-
-/// The arguments of a call, lengths and all.
-struct Call<'a, C> {
-    shape: &'a [usize],
-    structure: &'a [u8],
-    cells: &'a [C],
-    places: usize,
-    room: usize,
-    answer: usize,
-}
 
 impl<C> Call<'_, C> {
     /// What ours returns, and whether all that was lent stands.
@@ -27,30 +17,9 @@ impl<C> Call<'_, C> {
     where
         C: Labels<N>,
     {
-        let mut words = Lent::new(self.room, || r.next() as u32);
-        let mut out = Lent::new(self.places, || N::filled(r));
-        let mut answer = Lent::new(self.answer, || r.next());
         let blocks = below(r, 4);
-        let (shape, structure, cells) = (self.shape, self.structure, self.cells);
-        // SAFETY: each pointer is good for its count
-        let number = unsafe {
-            C::FRAME(
-                shape.as_ptr(),
-                shape.len(),
-                structure.as_ptr(),
-                structure.len(),
-                words.pointer(),
-                self.room,
-                cells.as_ptr(),
-                cells.len(),
-                out.pointer(),
-                self.places,
-                blocks,
-                answer.pointer(),
-                self.answer,
-            )
-        };
-        (number, words.stands() && out.stands() && answer.stands())
+        let o = self.frame::<N>(r, blocks);
+        (o.number, o.stands())
     }
 
     fn rust<N: Reads>(&self, r: &mut Random, threads: usize) -> &'static str
@@ -89,13 +58,15 @@ fn damaged<C: Labels<N>, N: Reads>(t: &mut Tally, r: &mut Random, rank: usize, t
     let n = size(&f.shape);
     let room = words_needed(&f.shape, &f.structure);
     let whole = || Call { shape: &f.shape, structure: &f.structure, cells: &f.cells, places: n, room, answer: ANSWER };
-    let (mut more_bytes, mut more_cells) = (f.structure.clone(), f.cells.clone());
+    let (mut more_bytes, mut more_cells, mut lopsided) = (f.structure.clone(), f.cells.clone(), f.structure.clone());
     more_bytes.push(1);
     more_cells.push(C::coded(b'1'));
+    make_lopsided(r, &mut lopsided);
     let bytes = f.structure.len();
     Call { structure: &f.structure[..bytes - 1], ..whole() }.hold::<N>(t, r, threads, "structure one byte short", 2, "");
     Call { structure: &f.structure[..0], ..whole() }.hold::<N>(t, r, threads, "no structure", 2, "");
     Call { structure: &more_bytes, ..whole() }.hold::<N>(t, r, threads, "structure one byte long", 2, "");
+    Call { structure: &lopsided, ..whole() }.hold::<N>(t, r, threads, "a lopsided structure", 12, "");
     Call { cells: &f.cells[..n - 1], ..whole() }.hold::<N>(t, r, threads, "cells one short", 8, "panics");
     Call { cells: &more_cells, ..whole() }.hold::<N>(t, r, threads, "cells one too many", 8, "");
     Call { places: n - 1, ..whole() }.hold::<N>(t, r, threads, "output one short", 9, "");

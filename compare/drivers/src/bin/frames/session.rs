@@ -3,7 +3,7 @@
 
 use crate::one::Fault;
 use crate::ours::{ANSWER, Fed, Reads, label_open, label_record_words, label_sizes};
-use drivers::frames::{below, cells, lines, shape, size, structure};
+use drivers::frames::{below, cells, lines, make_lopsided, shape, size, structure};
 use drivers::kinds::Cell;
 use drivers::lent::Lent;
 use drivers::plain::{Did, Runs, left_byte, runs, words_differ, words_needed};
@@ -198,25 +198,42 @@ impl Session {
             5 => record[87] += 1,
             _ => record[88] += 1,
         }
+        self.refused(r, record, places, want)
+    }
+
+    /// Calls on a record whose structure was made lopsided.
+    fn lopsided(&mut self, r: &mut Random) -> Held {
+        let (mut record, mut structure) = (self.record.now().to_vec(), self.structure.clone());
+        make_lopsided(r, &mut structure);
+        for (word, byte) in record[5..].iter_mut().zip(&structure) {
+            *word = *byte as u64;
+        }
+        self.refused(r, record, ANSWER, 6)
+    }
+
+    /// A reading, a feed and a size call on such a record, with an answer of so many words: each returns `want`, and nothing is written.
+    fn refused(&mut self, r: &mut Random, record: Vec<u64>, places: usize, want: u32) -> Held {
         let mut record = Lent::of(&record, 7);
         let mut answer = Lent::new(places, || r.next());
-        self.calls.push(format!("a damaged call of {} record words and {places} answer words", record.len()));
+        self.calls.push(format!("damaged calls of {} record words and {places} answer words", record.len()));
         let mut out = Lent::new(size(&self.shape), || r.next() as u16);
+        let mut sizes = Lent::new(self.n as usize, || r.next() as u32);
         let cells = vec![1u8; self.w];
         // SAFETY: each pointer is good for its count
         let numbers = unsafe {
-            let (p, n) = (record.pointer(), record.len());
+            let (p, n, words, room) = (record.pointer(), record.len(), self.words.pointer(), self.words.len());
             [
-                u16::READ(p, n, self.words.pointer(), self.words.len(), out.pointer(), out.len(), answer.pointer(), places),
-                u8::FEED(p, n, self.words.pointer(), self.words.len(), 1, cells.as_ptr(), self.w, answer.pointer(), places),
+                u16::READ(p, n, words, room, out.pointer(), out.len(), answer.pointer(), places),
+                u8::FEED(p, n, words, room, 1, cells.as_ptr(), self.w, answer.pointer(), places),
+                label_sizes(p, n, words, room, sizes.pointer(), sizes.len(), answer.pointer(), places),
             ]
         };
-        must(numbers == [want; 2], || format!("they return {numbers:?}, and should return {want}"))?;
-        must(record.stands() && answer.stands() && out.stands() && self.words.stands(), || "a refusal writes".into())
+        must(numbers == [want; 3], || format!("a reading, a feed and a size call return {numbers:?}, and should return {want}"))?;
+        must(record.stands() && answer.stands() && out.stands() && sizes.stands() && self.words.stands(), || "a refusal writes".into())
     }
 
     fn call(&mut self, r: &mut Random) -> (&'static str, Held) {
-        match below(r, 14) {
+        match below(r, 15) {
             0 | 1 => ("feed u8", self.feed::<u8>(r)),
             2 => ("feed u16", self.feed::<u16>(r)),
             3 => ("feed i16", self.feed::<i16>(r)),
@@ -225,6 +242,7 @@ impl Session {
             7 | 8 => ("read u16", self.read::<u16>(r)),
             9 | 10 => ("read u32", self.read::<u32>(r)),
             11 => ("damaged", self.damaged(r)),
+            12 => ("lopsided record", self.lopsided(r)),
             _ => ("sizes", self.sizes(r)),
         }
     }

@@ -1,8 +1,9 @@
-//! Every frame of a small shape, with every structure where they are few.
+//! Every frame of a small shape, with every symmetric structure where they are few. Every lopsided one of rank 1 and 2 is tried for 12.
 
+use crate::lopsided::refused;
 use crate::one::{Fault, compare};
 use crate::ours::{Labels, Reads};
-use drivers::frames::{Frame, lines, one_of, size, structure};
+use drivers::frames::{Frame, below, lines, nonzero, one_of, size, structure, symmetric};
 use drivers::kinds::Cell;
 use drivers::random::Random;
 use drivers::tally::Tally;
@@ -26,22 +27,31 @@ fn cells(t: &mut Tally, r: &mut Random, shape: &[usize], structure: &[u8], threa
     t.add("small shapes, all cells, with so many structures", format!("{shape:?}"), 1);
 }
 
+fn lopsided<C: Labels<N>, N: Reads>(t: &mut Tally, r: &mut Random, shape: &[usize], structure: Vec<u8>, fault: Fault) {
+    let cells = drivers::frames::cells(r, size(shape));
+    refused::<C, N>(t, r, &Frame { shape: shape.to_vec(), structure, cells }, fault);
+}
+
 fn structures(t: &mut Tally, r: &mut Random, shape: &[usize], threads: usize, fault: Fault) {
     let n = 3usize.pow(shape.len() as u32);
     for s in 0..1usize << n {
-        let structure: Vec<u8> = (0..n).map(|i| (s >> i & 1) as u8).collect();
-        cells(t, r, shape, &structure, threads, fault);
+        let structure: Vec<u8> = (0..n).map(|i| if s >> i & 1 == 1 { nonzero(r) } else { 0 }).collect();
+        if symmetric(&structure) {
+            cells(t, r, shape, &structure, threads, fault);
+        } else {
+            for_pair!(s, lopsided(t, r, shape, structure, fault));
+        }
     }
 }
 
 /// The bytes of rank 3 that a labelling may look at are the first: those of backward leading offsets, then the left byte.
 const LOOKED_AT: usize = 13;
 
-/// All cells of 2 by 2 by 2, with every structure that matters; its other bytes are random.
+/// All cells of 2 by 2 by 2, with every symmetric structure; its centre, which does not matter, is random.
 fn cubes(t: &mut Tally, r: &mut Random, fault: Fault) {
     for s in 0..1usize << LOOKED_AT {
-        let byte = |i: usize, r: &mut Random| if i < LOOKED_AT { (s >> i & 1) as u8 } else { r.next() as u8 };
-        let structure: Vec<u8> = (0..27).map(|i| byte(i, r)).collect();
+        let s = s | below(r, 2) << LOOKED_AT;
+        let structure: Vec<u8> = (0..27usize).map(|i| if s >> i.min(26 - i) & 1 == 1 { nonzero(r) } else { 0 }).collect();
         cells(t, r, &[2, 2, 2], &structure, 1, fault);
     }
 }
@@ -61,9 +71,11 @@ pub fn all(t: &mut Tally, r: &mut Random, frames: usize, fault: Fault) {
         }
         if threads == 1 {
             structures(t, r, &[3, 3], threads, fault);
+            structures(t, r, &[3, 4], threads, fault);
             cubes(t, r, fault);
         } else {
             structures(t, r, &[2, 4], threads, fault);
+            structures(t, r, &[4, 3], threads, fault);
         }
         let shapes: [(&[usize], usize); 6] =
             [(&[2, 2, 2], 100), (&[2, 3, 1], 100), (&[3, 1, 2], 100), (&[1, 2, 3], 100), (&[2, 2, 2, 1], 100), (&[2, 1, 2, 2], 100)];
