@@ -11,7 +11,7 @@ use lib.Dec.{eqb}
 use lib.ListN.{length}
 use Rattle.frame.specs.Shape.{size, width, lines}
 use Rattle.frame.specs.Lists.{padded}
-use Rattle.frame.specs.Causes.{Test, when, firstCause, openTests, openCause, frameTests, frameCause}
+use Rattle.frame.specs.Causes.{Test, firstCause, openTests, openCause, restTests, frameTests, frameCause}
 use Rattle.frame.proofs.EntryLaws.{entries-padded}
 use Rattle.frame.proofs.ShapeLaws.{size-lines}
 use Rattle.frame.proofs.CauseLaws.{accepted, first-none, open-real, Allowed, open-accepted}
@@ -48,7 +48,7 @@ module _ (shape structure : List ℕ) (memory cells out : ℕ) (r : Checked)
       found-cause (length shape) (padded 4 shape) structure (checkNumber (r .check)) (frameCause shape structure memory cells out true) r
       some
       (first-some (openTests shape structure memory)
-      (when (not (eqb cells (size shape))) 8 ∷ when (not (eqb out (size shape))) 9 ∷ when (not true) 10 ∷ []) (checkNumber (r .check)) some
+      (restTests shape cells out true) (checkNumber (r .check)) some
       (F .number))
       refl
 
@@ -74,10 +74,10 @@ module _ (shape structure : List ℕ) (memory cells out : ℕ) (r : Checked)
 
     -- what is left to test
     rest : frameCause shape structure memory cells out true
-        ≡ firstCause (when (not (eqb cells (size shape))) 8 ∷ when (not (eqb out (size shape))) 9 ∷ when (not true) 10 ∷ [])
+        ≡ firstCause (restTests shape cells out true)
     unfolding frameCause frameTests openCause
     rest = first-none (openTests shape structure memory)
-        (when (not (eqb cells (size shape))) 8 ∷ when (not (eqb out (size shape))) 9 ∷ when (not true) 10 ∷ [])
+        (restTests shape cells out true)
         (accepted (openTests shape structure memory) (open-real shape structure memory) .0 none)
 
     pub frame-gets-8 : cells ≢ r .geo .lines * r .geo .width → 8 ≡ frameCause shape structure memory cells out true

@@ -13,8 +13,7 @@ use Rattle.groups.proofs.BoolLaws.{or-left}
 use Rattle.frame.specs.Shape.{size, leading}
 use Rattle.frame.specs.Memory.{wordsNeeded}
 use Rattle.frame.specs.Causes.{badRank, hasZero, tooLarge, lopsided, Test, when, firstCause, openTests, openCause, feedTests}
-use Rattle.frame.specs.Causes.{feedCause}
-use Rattle.frame.specs.Causes.{readTests, readCause, sizesTests, sizesCause, frameTests, frameCause}
+use Rattle.frame.specs.Causes.{feedCause, readTests, readCause, sizesTests, sizesCause, restTests, frameTests, frameCause}
 
 -- ---- accepted
 
@@ -70,11 +69,6 @@ read-real sound out wanted fits = ((λ z. omega arith), ((λ z. omega arith), ((
 pub sizes-real : (sound : Bool) (out n : ℕ) → Real (sizesTests sound out n)
 unfolding sizesTests
 sizes-real sound out n = ((λ z. omega arith), ((λ z. omega arith), tt))
-
--- a whole frame's, after an opening's
-abbrev restTests : List ℕ → ℕ → ℕ → Bool → List Test
-restTests shape cells out fits =
-    when (not (eqb cells (size shape))) 8 ∷ when (not (eqb out (size shape))) 9 ∷ when (not fits) 10 ∷ []
 
 pub frame-real : (shape structure : List ℕ) (memory cells out : ℕ) (fits : Bool) → Real (frameTests shape structure memory cells out fits)
 unfolding frameTests

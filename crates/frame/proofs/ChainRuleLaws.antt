@@ -42,6 +42,20 @@ any-at f (suc n) k h e = go (eqb k n) refl (any-at f n k)
     go true t below = rw (← eqb-true k n t, e)
     go false t below = let ne = eqb-false k n t in or-right (f n) (any f n) (below (omega arith) e)
 
+pub any-none : (f : ℕ → Bool) (n : ℕ) → any f n ≡ false → (k : ℕ) → k < n → f k ≡ false
+any-none f n h k l = go (f k) refl
+  where
+    go : (b : Bool) → f k ≡ b → f k ≡ false
+    go true e = absurd (true≢false (sym (any-at f n k l e) ∙ h))
+    go false e = e
+
+pub none-any : (f : ℕ → Bool) (n : ℕ) → ((k : ℕ) → k < n → f k ≡ false) → any f n ≡ false
+none-any f n h = go (any f n) refl
+  where
+    go : (b : Bool) → any f n ≡ b → any f n ≡ false
+    go true e = let r = any-found f n e in absurd (true≢false (sym (r .2) ∙ h (r .0) (r .1)))
+    go false e = e
+
 same-eq : (xs ys : List ℕ) → sameList xs ys ≡ true → xs ≡ ys
 unfolding sameList
 same-eq [] [] h = refl

@@ -2,7 +2,7 @@
 -- Assumes nothing.
 use mathlib.Core.Path.{_≡_, refl, sym, ap, ap₂, _∙_, subst}
 use mathlib.Core.Logic.{_↔_}
-use mathlib.Core.Bool.{Bool, true, false, not, Bool·beq, true≢false}
+use mathlib.Core.Bool.{Bool, true, false, not, Bool·beq}
 use mathlib.Core.List.{List, [], _∷_, zipWith}
 use Prim.Native.Nat.{ℕ, zero, suc, _+_, _-_, _*_, _/_, _%_, _^_, _≤_, _<_}
 use native.Mathlib.Nat.{pow-succ', div-add-mod', mod-lt, suc-mul}
@@ -11,7 +11,7 @@ use borrow.Author.Tests.{ltb-true, ltb-false}
 use lib.Dec.{eqb, ltb}
 use lib.Arith.{digits-div, digits-mod}
 use lib.ListN.{length}
-use Rattle.groups.proofs.BoolLaws.{bool-same}
+use Rattle.groups.proofs.BoolLaws.{bool-same, same-bits, bits-same}
 use Rattle.frame.specs.Shape.{coords}
 use Rattle.frame.specs.Lists.{entries}
 use Rattle.frame.specs.Structure.{offset, Moved, on, oppositeCode, Symmetric}
@@ -19,35 +19,9 @@ use Rattle.frame.specs.ChainRule.{any}
 use Rattle.frame.specs.Causes.{unlike, lopsided}
 use Rattle.frame.proofs.StructureLaws.{three-pos, offset-first, moved-cons, moved-head}
 use Rattle.frame.proofs.EntryLaws.{getD-entries}
-use Rattle.frame.proofs.ChainRuleLaws.{any-found, any-at}
+use Rattle.frame.proofs.ChainRuleLaws.{any-found, any-at, any-none, none-any}
 
 -- ---- the test
-
-any-none : (f : ℕ → Bool) (n : ℕ) → any f n ≡ false → (k : ℕ) → k < n → f k ≡ false
-any-none f n h k l = go (f k) refl
-  where
-    go : (b : Bool) → f k ≡ b → f k ≡ false
-    go true e = absurd (true≢false (sym (any-at f n k l e) ∙ h))
-    go false e = e
-
-none-any : (f : ℕ → Bool) (n : ℕ) → ((k : ℕ) → k < n → f k ≡ false) → any f n ≡ false
-none-any f n h = go (any f n) refl
-  where
-    go : (b : Bool) → any f n ≡ b → any f n ≡ false
-    go true e = let r = any-found f n e in absurd (true≢false (sym (r .2) ∙ h (r .0) (r .1)))
-    go false e = e
-
-same-bits : (a b : Bool) → not (Bool·beq a b) ≡ false → a ≡ b
-same-bits true true h = refl
-same-bits true false h = absurd (true≢false h)
-same-bits false true h = absurd (true≢false h)
-same-bits false false h = refl
-
-bits-same : (a b : Bool) → a ≡ b → not (Bool·beq a b) ≡ false
-bits-same true true e = refl
-bits-same true false e = absurd (true≢false e)
-bits-same false true e = absurd (true≢false (sym e))
-bits-same false false e = refl
 
 module _ (rank : ℕ) (structure : List ℕ) where
   pub symmetric-test : lopsided rank structure ≡ false ↔ Symmetric rank structure

@@ -84,11 +84,13 @@ sizesTests sound out n = when (not sound) 6 ∷ when (not (eqb out n)) 9 ∷ []
 unfoldable pub sizesCause : Bool → ℕ → ℕ → ℕ
 sizesCause sound out n = firstCause (sizesTests sound out n)
 
--- whole frame: an opening's, then 8, 9, 10. The counts of words, of cells and of output places, and whether the kind holds n
+-- whole frame: an opening's, then the rest, 8, 9, 10. The counts of words, of cells and of output places, and whether the kind holds n
+abbrev pub restTests : List ℕ → ℕ → ℕ → Bool → List Test
+restTests shape cells out fits =
+    when (not (eqb cells (size shape))) 8 ∷ when (not (eqb out (size shape))) 9 ∷ when (not fits) 10 ∷ []
+
 unfoldable pub frameTests : List ℕ → List ℕ → ℕ → ℕ → ℕ → Bool → List Test
-frameTests shape structure memory cells out fits =
-    openTests shape structure memory
-    ++ when (not (eqb cells (size shape))) 8 ∷ when (not (eqb out (size shape))) 9 ∷ when (not fits) 10 ∷ []
+frameTests shape structure memory cells out fits = openTests shape structure memory ++ restTests shape cells out fits
 
 unfoldable pub frameCause : List ℕ → List ℕ → ℕ → ℕ → ℕ → Bool → ℕ
 frameCause shape structure memory cells out fits = firstCause (frameTests shape structure memory cells out fits)

@@ -149,10 +149,12 @@ refusals =
     opening [] C 0 (no 1 ∷ [])
     ∷ opening (0 ∷ 1 ∷ 1 ∷ 1 ∷ 1 ∷ []) (d 3 100) 0 (no 1 ∷ [])
     ∷ opening (0 ∷ 3 ∷ []) (d 3 100) 0 (no 2 ∷ [])
-    -- one arm missing; lopsided at the outermost pair, and at the innermost; alike, though not by value
+    -- one arm missing; lopsided at the outermost pair, and at the innermost; of width 0; of rank 4; alike, though not by value
     ∷ opening (0 ∷ 3 ∷ []) (d 9 10111000) 0 (no 12 ∷ [])
     ∷ opening (0 ∷ 3 ∷ []) (d 9 1) 0 (no 12 ∷ [])
     ∷ opening (2147483647 ∷ []) (d 3 1) 0 (no 12 ∷ [])
+    ∷ opening (0 ∷ []) (d 3 100) 10 (no 12 ∷ [])
+    ∷ opening (1 ∷ 1 ∷ 1 ∷ 1 ∷ []) (replicate 80 1 ++ 0 ∷ []) 10 (no 12 ∷ [])
     ∷ opening (3 ∷ []) (d 3 207) 10 []
     ∷ opening (4294967293 ∷ 0 ∷ 3 ∷ []) (replicate 27 1) 0 (no 3 ∷ [])
     ∷ opening (0 ∷ 2147483647 ∷ []) C 0 (no 3 ∷ [])

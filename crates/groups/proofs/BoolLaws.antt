@@ -1,8 +1,8 @@
--- Tests joined by `and` and `or`.
+-- Tests joined by `and` and `or`, and tests that are one.
 -- Assumes nothing.
 use mathlib.Core.Path.{_≡_, refl, sym}
 use mathlib.Core.Logic.{_⊎_, inl, inr}
-use mathlib.Core.Bool.{Bool, true, false, _&&_, _||_, true≢false}
+use mathlib.Core.Bool.{Bool, true, false, not, _&&_, _||_, Bool·beq, true≢false}
 
 pub and-true : (a b : Bool) → a ≡ true → b ≡ true → (a && b) ≡ true
 and-true a b p q = rw (p, q)
@@ -39,3 +39,16 @@ pub bool-same : (a b : Bool) → (a ≡ true → b ≡ true) → (b ≡ true →
 bool-same true b f g = sym (f refl)
 bool-same false true f g = g refl
 bool-same false false f g = refl
+
+-- and where a comparison finds no difference
+pub same-bits : (a b : Bool) → not (Bool·beq a b) ≡ false → a ≡ b
+same-bits true true h = refl
+same-bits true false h = absurd (true≢false h)
+same-bits false true h = absurd (true≢false h)
+same-bits false false h = refl
+
+pub bits-same : (a b : Bool) → a ≡ b → not (Bool·beq a b) ≡ false
+bits-same true true e = refl
+bits-same true false e = absurd (true≢false e)
+bits-same false true e = absurd (true≢false (sym e))
+bits-same false false e = refl

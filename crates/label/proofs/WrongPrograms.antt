@@ -261,6 +261,16 @@ whole-names a ws out P e =
     let z : numberIn (parentOf 3 v) 0 ≡ 1 = rw root in
     omega (arith, ap (word 7) n)
 
+-- it labels by a structure with one arm missing; it looks for that after the count of cells
+whole-lopsided : (n : ℕ) (g : Figures) (ws out : List ℕ)
+    → FramePromise u8 frame armless memory (line ++ line ++ whole) junk (counted n g) ws out → ⊥
+unfolding armless computed
+whole-lopsided n g ws out P = let z : _≡_ {A = ℕ} 0 12 = ap numberSaid (P .said) in omega arith
+
+cells-before-structure : (ws out : List ℕ) → FramePromise u8 frame armless memory line junk (refused 8) ws out → ⊥
+unfolding armless computed
+cells-before-structure ws out P = let z : _≡_ {A = ℕ} 8 12 = ap numberSaid (P .said) in omega arith
+
 -- refused with 9, it has opened: word 0 is written
 whole-nine : (a : Answer) (out : List ℕ) → Labels (5 ∷ []) a (set memory 0 0) out → ⊥
 unfolding computed

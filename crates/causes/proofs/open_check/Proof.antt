@@ -49,11 +49,10 @@ returns-2 c =
 
 lopsided-requires : tie.Need-lopsided-requires
 lopsided-requires c κs =
-    let e = c in
-    let shape = now (e .before .before .before .before .before .before .args .shape) in
-    let structure = now (e .before .before .before .before .before .before .args .structure) in
-    let ranked = rank-test shape _ _ (e .before .before .before .bad-rank .ensures) (e .before .before .if1 .left) in
-    let bytes = e .if2 .left ∙ e .before .power3 .ensures in
+    let shape = now (c .before .before .before .before .before .before .args .shape) in
+    let structure = now (c .before .before .before .before .before .before .args .structure) in
+    let ranked = rank-test shape _ _ (c .before .before .before .bad-rank .ensures) (c .before .before .if1 .left) in
+    let bytes = c .if2 .left ∙ c .before .power3 .ensures in
     let few = rank-right shape ranked in
     (few .0, few .1, omega (arith, bytes))
 
@@ -134,8 +133,7 @@ returns-5 c =
 
 words-needed-requires : tie.Need-words-needed-requires
 words-needed-requires c κs =
-    let f = c in
-    let z = f .before .before in
+    let z = c .before .before in
     let g = z .before .before in
     let a = g .before .before in
     let e = a .before .before in
@@ -147,7 +145,7 @@ words-needed-requires c κs =
     let measured = subst (λ (l : List ℕ). Measured (length shape) l structure (g .geo-of .result)) (g .before .shape-of .ensures)
     (g .geo-of .ensures) in
     let no-zero = sym (z .before .has-zero .ensures) ∙ z .if4 .left in
-    let fits = sym (f .before .too-large .ensures) ∙ f .if5 .left in
+    let fits = sym (c .before .too-large .ensures) ∙ c .if5 .left in
     open-limits shape structure 0 ranked bytes alike _ measured no-zero fits
 
 refused-requires-6 : tie.Need-refused-requires-6
