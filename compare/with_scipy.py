@@ -56,7 +56,7 @@ def cells_of(r, shape, kind):
 
 
 def ours(lib, cells, structure, number, blocks):
-    """What is returned, n with runs and joins, the output, and whether all that was lent stands."""
+    """What is returned, n with runs, joins and nonzero cells, the output, and whether all that was lent stands."""
     shape = (ctypes.c_size_t * cells.ndim)(*cells.shape)
     bytes_ = structure.ravel()
     lines, width = int(np.prod(cells.shape[:-1])), cells.shape[-1]
@@ -69,7 +69,7 @@ def ours(lib, cells, structure, number, blocks):
     size, at = ctypes.c_size_t, lambda a: ctypes.c_void_p(a.ctypes.data)
     returned = call(shape, size(cells.ndim), at(bytes_), size(bytes_.size), at(words), size(words.size), at(cells), size(cells.size),
                     at(out), size(out.size), size(blocks), at(answer), size(8))
-    return returned, [int(x) for x in answer[:3]], out, (words == WORD).all() and (out == PLACE).all() and (answer == FIGURE).all()
+    return returned, [int(x) for x in answer[:4]], out, (words == WORD).all() and (out == PLACE).all() and (answer == FIGURE).all()
 
 
 def scipys(cells, structure, number):
@@ -83,7 +83,7 @@ def scipys(cells, structure, number):
 
 
 def differs(lib, cells, structure, number, blocks):
-    returned, (n, runs, joins), out, _ = ours(lib, cells, structure, number, blocks)
+    returned, (n, runs, joins, total), out, _ = ours(lib, cells, structure, number, blocks)
     theirs = scipys(cells, structure, number)
     if theirs is None:
         return None if returned == REFUSED else f"SciPy refuses, ours returns {returned}"
@@ -91,6 +91,8 @@ def differs(lib, cells, structure, number, blocks):
         return f"SciPy finds {theirs[0]}, ours returns {returned}"
     if n != theirs[0] or runs != n + joins:
         return f"SciPy finds {theirs[0]}, ours {n} with {runs} runs and {joins} joins"
+    if total != np.count_nonzero(cells):
+        return f"{np.count_nonzero(cells)} cells are nonzero, ours answers {total}"
     return None if np.array_equal(out, theirs[1]) else "the numbers differ"
 
 

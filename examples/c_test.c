@@ -90,7 +90,7 @@ static void test_open(void)
 static void test_session(void)
 {
     static const uint8_t expect[L * W] = {1, 0, 1, 1, 0, 1, 1, 1, 1};
-    static const uint64_t runs[L] = {2, 4, 5}, joins[L] = {0, 2, 4};
+    static const uint64_t runs[L] = {2, 4, 5}, joins[L] = {0, 2, 4}, total[L] = {2, 4, 7};
     struct session s, before;
     uint8_t out[L * W];
     uint32_t size = 0;
@@ -100,17 +100,18 @@ static void test_session(void)
     for (line = 0; line < L; line++) {
         before = s;
         CHECK(feed(&s, 1, line * W, W) == LABEL_OK);
-        CHECK(s.answer[0] == line + 1 && s.answer[1] == runs[line] && s.answer[2] == joins[line]);
-        CHECK(memcmp(s.answer + 3, before.answer + 3, (ANSWER + 2 - 3) * sizeof s.answer[0]) == 0);
+        CHECK(s.answer[0] == line + 1 && s.answer[1] == runs[line] && s.answer[2] == joins[line] && s.answer[3] == total[line]);
+        CHECK(memcmp(s.answer + 4, before.answer + 4, (ANSWER + 2 - 4) * sizeof s.answer[0]) == 0);
         CHECK(memcmp(s.record + RECORD, before.record + RECORD, 2 * sizeof s.record[0]) == 0);
         CHECK(label_read_u8(s.record, RECORD, s.words, WORDS, out, L * W, s.answer, ANSWER) == LABEL_OK);
         CHECK(s.answer[0] == runs[line] - joins[line] && s.answer[1] == runs[line] && s.answer[2] == joins[line]);
+        CHECK(s.answer[3] == total[line] && s.record[RECORD - 1] == total[line]);
         for (i = (line + 1) * W; i < L * W; i++)
             CHECK(out[i] == 0);
     }
     CHECK(memcmp(out, expect, sizeof out) == 0);
     CHECK(label_sizes(s.record, RECORD, s.words, WORDS, &size, 1, s.answer, ANSWER) == LABEL_OK);
-    CHECK(size == 7 && s.answer[0] == 1 && s.answer[1] == 5 && s.answer[2] == 4);
+    CHECK(size == 7 && s.answer[0] == 1 && s.answer[1] == 5 && s.answer[2] == 4 && s.answer[3] == 7);
 }
 
 static void test_refusals(void)
@@ -198,7 +199,7 @@ static const float cellsf[L * W] = {1.0f, 0.0f, 0.5f, -2.0f, -0.0f, 1e-30f, 3.0f
             memset(out, 0xa5, sizeof out);                                                                           \
             CHECK(label_frame_##cell##_##number(shape, 2, cross, 9, s.words, WORDS, values, L * W, out, L * W,       \
                                                 blocks, s.answer, ANSWER) == LABEL_OK);                              \
-            CHECK(s.answer[0] == 1 && s.answer[1] == 5 && s.answer[2] == 4);                                         \
+            CHECK(s.answer[0] == 1 && s.answer[1] == 5 && s.answer[2] == 4 && s.answer[3] == 7);                     \
             for (i = 0; i < L * W; i++)                                                                              \
                 CHECK(out[i] == cells[i]);                                                                           \
         }                                                                                                            \
@@ -219,7 +220,7 @@ static const float cellsf[L * W] = {1.0f, 0.0f, 0.5f, -2.0f, -0.0f, 1e-30f, 3.0f
         size_t i;                                                                                                    \
         CHECK(open_session(&s) == LABEL_OK);                                                                         \
         CHECK(label_feed_##cell(s.record, RECORD, s.words, WORDS, L, values, L * W, s.answer, ANSWER) == LABEL_OK);  \
-        CHECK(s.answer[0] == L && s.answer[1] == 5 && s.answer[2] == 4);                                             \
+        CHECK(s.answer[0] == L && s.answer[1] == 5 && s.answer[2] == 4 && s.answer[3] == 7);                         \
         CHECK(label_read_##number(s.record, RECORD, s.words, WORDS, out, L * W, s.answer, ANSWER) == LABEL_OK);      \
         for (i = 0; i < L * W; i++)                                                                                  \
             CHECK(out[i] == cells[i]);                                                                               \
@@ -254,7 +255,8 @@ static void test_kind(void)
     for (i = 0; i < WIDE; i++)
         line[i] = i % 2 == 0;
     CHECK(label_frame_u8_u8(&width, 1, ones, 3, memory, WORDS_WIDE, line, width, out, width, 1, answer, ANSWER) == LABEL_OK);
-    CHECK(answer[0] == 255 && answer[1] == 255 && answer[2] == 0 && answer[3] == 8 && answer[7] == 12 && out[508] == 255);
+    CHECK(answer[0] == 255 && answer[1] == 255 && answer[2] == 0 && answer[3] == 255 && out[508] == 255);
+    CHECK(answer[4] == 9 && answer[7] == 12);
     width = WIDE;
     memset(out, 9, sizeof out);
     CHECK(label_frame_u8_u8(&width, 1, ones, 3, memory, WORDS_WIDE, line, width, out, width, 1, answer, ANSWER) == LABEL_KIND);

@@ -39,7 +39,7 @@ enum label_result {
 
 /* The words of a record, and the least words of an answer. An accepted call writes the first words of the answer, as is said at each,
  * and leaves the others as they were. */
-#define LABEL_RECORD_WORDS 89
+#define LABEL_RECORD_WORDS 90
 #define LABEL_ANSWER_WORDS 8
 
 /* The words of memory that a frame needs: lines + 1 + 4 x lines x h, where h is half the width, rounded up, or the whole width
@@ -72,8 +72,8 @@ uint32_t label_open(const size_t *shape, size_t rank,
 
 /* Feeds the next k lines of the frame, with their k x width cells. A cell counts by whether it is zero; of float +0.0 and -0.0
  * are zero, and NaN is not.
- * Accepted: answer[0] is lines fed, answer[1] runs, answer[2] joins, all so far, and the groups so far are answer[1] - answer[2]. The
- * record is written, and of the words the new line starts, runs and parents.
+ * Accepted: answer[0] is lines fed, answer[1] runs, answer[2] joins, answer[3] nonzero cells, all so far, and the groups so far are
+ * answer[1] - answer[2]. The record is written, and of the words the new line starts, runs and parents.
  * Returns 0, 100, 6, 7 or 8, looked for in this order; unless it is 0, nothing is written. */
 uint32_t label_feed_u8(uint64_t *record, size_t record_words,
                        uint32_t *words, size_t word_count,
@@ -94,8 +94,8 @@ uint32_t label_feed_f32(uint64_t *record, size_t record_words,
 
 /* Writes each cell's number to `out`, which has lines x width places: 0 for a zero cell and for a line not yet fed, else its group's
  * number. Groups are numbered 1 to n by their first cells in C order.
- * Accepted: answer[0] is n, answer[1] runs, answer[2] joins. Every place of `out` is written, and of the words the names of the runs. The
- * session goes on: a reading may be repeated, and feeds may follow.
+ * Accepted: answer[0] is n, answer[1] runs, answer[2] joins, answer[3] nonzero cells, of the lines fed. Every place of `out` is written,
+ * and of the words the names of the runs. The session goes on: a reading may be repeated, and feeds may follow.
  * Returns 0, 100, 6, 9 or 10, looked for in this order; unless it is 0, nothing is written. */
 uint32_t label_read_u8(const uint64_t *record, size_t record_words,
                        uint32_t *words, size_t word_count,

@@ -5,7 +5,7 @@ use mathlib.Core.Bool.{Bool, true, false}
 use mathlib.Core.List.{List, [], _∷_, _++_, map}
 use Prim.Native.Nat.{ℕ, zero, suc, _+_, _-_, _*_, _≤_, _<_}
 use native.Mathlib.Decide.{ℕ-discrete, le-ind}
-use native.Mathlib.Nat.{le-refl, mul-le-mul-right, suc-mul, zero-add}
+use native.Mathlib.Nat.{le-refl, mul-le-mul-right, zero-mul, suc-mul, zero-add}
 use native.Mathlib.Numerals.{add-one}
 use native.Mathlib.Omega.{arith}
 use borrow.Rule.Slice.PartMut.{midOf}
@@ -17,10 +17,12 @@ use Rattle.groups.specs.Groups.{gather}
 use Rattle.groups.proofs.GatherLaws.{gather-snoc}
 use Rattle.frame.specs.Memory.{stride}
 use Rattle.frame.specs.Words.{startAt, endAt, startPlace, endPlace, lineStart, storedRun}
-use Rattle.frame.specs.Runs.{Run, none, lineRuns, lineOf}
+use Rattle.frame.specs.Runs.{nonzeroCells, Run, none, lineRuns, lineOf}
+use Rattle.frame.proofs.CellLaws.{cells-none, cells-line, cells-most, cells-split}
+use Rattle.runs.specs.declared.Counts.{Counts}
 use Rattle.runs.specs.Extract.{putRuns, Room, Extracted}
 use Rattle.runs.proofs.PutLaws.{put-other, put-below, put-start, put-end, extracted-long}
-use Rattle.block.specs.Blocks.{linesRuns, BlockRoom, Unwritten, Block}
+use Rattle.block.specs.Blocks.{linesRuns, linesCells, BlockRoom, Unwritten, Block}
 
 -- ---- a line of the cells, and its flags
 
@@ -65,10 +67,11 @@ module _ (left : Bool) (w L fed runs : ℕ) (flags : List Bool) where
       le-ind (λ k. length (all i) ≤ length (all k)) (le-refl (length (all i))) (λ k l below. omega (arith, below, count-suc k)) k h
 
   -- no line yet
-  pub block-none : (ws : List ℕ) → Block left w L fed runs 0 flags ws ws runs
-  unfolding linesRuns gather
+  pub block-none : (ws : List ℕ) → Block left w L fed runs 0 flags ws ws (record { runs = 0; cells = 0 })
+  unfolding linesRuns linesCells gather
   block-none ws = record {
     counted = omega arith;
+    total = sym (ap (λ (n : ℕ). nonzeroCells (take n flags)) (zero-mul w) ∙ cells-none);
     long = refl;
     lined = λ i h. absurd (omega arith);
     ran = λ r h. absurd
@@ -77,35 +80,44 @@ module _ (left : Bool) (w L fed runs : ℕ) (flags : List Bool) where
   }
 
   -- line i, after the lines before it
-  module _ (k : ℕ) (ws : List ℕ) (R : BlockRoom left w L fed runs k flags ws) (i : ℕ) (h : i < k) (now : List ℕ) (n : ℕ)
-      (B : Block left w L fed runs i flags ws now n) where
+  module _ (k : ℕ) (ws : List ℕ) (R : BlockRoom left w L fed runs k flags ws) (i : ℕ) (h : i < k) (now : List ℕ) (n c : ℕ)
+      (B : Block left w L fed runs i flags ws now (record { runs = n; cells = c })) where
     -- how many runs there are with it
-    upto : n + length (here i) ≤ runs + length (all k)
+    upto : n + length (here i) ≤ length (all k)
     upto = omega (arith, B .counted, count-suc i, count-rise (suc i) k h)
 
-    place-fits : L + 1 + stride * (n + length (here i)) ≤ length now
+    place-fits : L + 1 + stride * (runs + n + length (here i)) ≤ length now
     place-fits = omega (arith, upto, R .room, B .long)
 
-    line-room : Room left (lineOf w flags i) now (L + 1 + stride * n)
+    line-room : Room left (lineOf w flags i) now (L + 1 + stride * (runs + n))
     unfolding lineOf
     line-room = record { short = omega (arith, length-take w (drop (i * w) flags), R .short); room = omega (arith, place-fits) }
 
     -- its runs are written, then its line start
-    module _ (next : List ℕ) (m : ℕ) (X : Extracted left (lineOf w flags i) now next (L + 1 + stride * n) m) where
+    module _ (next : List ℕ) (m : Counts) (X : Extracted left (lineOf w flags i) now next (L + 1 + stride * (runs + n)) m) where
       abbrev at : ℕ
-      at = L + 1 + stride * n
+      at = L + 1 + stride * (runs + n)
 
       abbrev after : List ℕ
-      after = set next (fed + i + 1) (n + m)
+      after = set next (fed + i + 1) (runs + (n + m .runs))
 
-      count-now : n + m ≡ runs + length (all (suc i))
+      count-now : n + m .runs ≡ length (all (suc i))
       count-now = omega (arith, B .counted, X .counted, count-suc i)
 
-      line-small : n + m < 4294967296
+      line-small : runs + (n + m .runs) < 4294967296
       line-small = omega (arith, upto, X .counted, R .small)
 
+      cells-now : c + m .cells ≡ linesCells w flags (suc i)
+      unfolding linesCells
+      cells-now = omega (arith, B .total, X .total, cells-line w i flags)
+
+      -- no more than the cells of the lines
+      line-few : c + m .cells ≤ length flags
+      unfolding linesCells
+      line-few = omega (arith, cells-now, cells-split (suc i * w) flags, cells-most flags)
+
       word : (j : ℕ) → (j ≡ fed + i + 1 → ⊥) → getD after j 0 ≡ getD (putRuns now at (here i)) j 0
-      word j ne = getD-set-other next (fed + i + 1) j (n + m) 0 ne ∙ ap (λ (l : List ℕ). getD l j 0) (X .written)
+      word j ne = getD-set-other next (fed + i + 1) j (runs + (n + m .runs)) 0 ne ∙ ap (λ (l : List ℕ). getD l j 0) (X .written)
 
       starts : (j : ℕ) → j < suc i → lineStart after (fed + suc j) ≡ runs + length (all (suc j))
       starts j l = go (ℕ-discrete j i)
@@ -114,8 +126,8 @@ module _ (left : Bool) (w L fed runs : ℕ) (flags : List Bool) where
           go (yes e) =
               let q : fed + suc j ≡ fed + i + 1 = omega arith in
               ap (λ (x : ℕ). getD after x 0) q
-              ∙ getD-set-same next (fed + i + 1) (n + m) 0 (omega (arith, extracted-long X, place-fits, R .within))
-              ∙ count-now
+              ∙ getD-set-same next (fed + i + 1) (runs + (n + m .runs)) 0 (omega (arith, extracted-long X, place-fits, R .within))
+              ∙ ap (λ (x : ℕ). runs + x) count-now
               ∙ ap (λ (x : ℕ). runs + length (all (suc x))) (sym e)
           go (no e) =
               word (fed + suc j) (λ q. omega arith) ∙ put-below (here i) now at (fed + suc j) (omega (arith, R .within))
@@ -171,12 +183,15 @@ module _ (left : Bool) (w L fed runs : ℕ) (flags : List Bool) where
             no-end = λ r l. A .no-end r (omega (arith, count-suc i));
           })
 
-      line-then : Block left w L fed runs (i + 1) flags ws (set next (fed + i + 1) (n + m)) (n + m)
+      line-then : Block left w L fed runs (i + 1) flags ws (set next (fed + i + 1) (runs + (n + m .runs)))
+          (record { runs = n + m .runs; cells = c + m .cells })
       line-then =
-          subst (λ (x : ℕ). Block left w L fed runs x flags ws after (n + m)) (sym (add-one i))
+          subst (λ (x : ℕ). Block left w L fed runs x flags ws after (record { runs = n + m .runs; cells = c + m .cells }))
+          (sym (add-one i))
           (record {
             counted = count-now;
-            long = length-set next (fed + i + 1) (n + m) ∙ extracted-long X ∙ B .long;
+            total = cells-now;
+            long = length-set next (fed + i + 1) (runs + (n + m .runs)) ∙ extracted-long X ∙ B .long;
             lined = starts;
             ran =
                 runs-then;
@@ -184,9 +199,9 @@ module _ (left : Bool) (w L fed runs : ℕ) (flags : List Bool) where
           })
 
   -- the loop's end
-  pub block-end : (i k : ℕ) → i ≤ k → k ≤ i → {ws now : List ℕ} {n : ℕ} → Block left w L fed runs i flags ws now n
-      → Block left w L fed runs k flags ws now n
-  block-end i k a b {ws} {now} {n} B = let e : i ≡ k = omega arith in subst (λ (x : ℕ). Block left w L fed runs x flags ws now n) e B
+  pub block-end : (i k : ℕ) → i ≤ k → k ≤ i → {ws now : List ℕ} {c : Counts} → Block left w L fed runs i flags ws now c
+      → Block left w L fed runs k flags ws now c
+  block-end i k a b {ws} {now} {c} B = let e : i ≡ k = omega arith in subst (λ (x : ℕ). Block left w L fed runs x flags ws now c) e B
 
 -- ---- of cells of any kind, whose line i is lent as a part
 
@@ -196,19 +211,24 @@ module _ {A : Type 0} (f : A → Bool) (cells : List A) (left : Bool) (w L fed r
   pub cells-fit : (i : ℕ) → i < k → i * w + w ≤ length cells
   cells-fit i h = omega (arith, line-within i k w h, R .whole, length-map cells f)
 
-  module _ (i : ℕ) (h : i < k) (now : List ℕ) (n : ℕ) (B : Block left w L fed runs i (map f cells) ws now n) where
-    pub block-room : Room left (map f (midOf (i * w) (i * w + w - i * w) cells)) now (L + 1 + stride * n)
-    block-room = subst (λ (l : List Bool). Room left l now (L + 1 + stride * n)) (sym (line-flags f w i cells))
-        (line-room left w L fed runs (map f cells) k ws R i h now n B)
+  module _ (i : ℕ) (h : i < k) (now : List ℕ) (n c : ℕ)
+      (B : Block left w L fed runs i (map f cells) ws now (record { runs = n; cells = c })) where
+    pub block-room : Room left (map f (midOf (i * w) (i * w + w - i * w) cells)) now (L + 1 + stride * (runs + n))
+    block-room = subst (λ (l : List Bool). Room left l now (L + 1 + stride * (runs + n))) (sym (line-flags f w i cells))
+        (line-room left w L fed runs (map f cells) k ws R i h now n c B)
 
-    module _ (next : List ℕ) (m : ℕ) (X : Extracted left (map f (midOf (i * w) (i * w + w - i * w) cells)) now next
-        (L + 1 + stride * n) m) where
-      its : Extracted left (lineOf w (map f cells) i) now next (L + 1 + stride * n) m
-      its = subst (λ (l : List Bool). Extracted left l now next (L + 1 + stride * n) m) (line-flags f w i cells) X
+    module _ (next : List ℕ) (m : Counts) (X : Extracted left (map f (midOf (i * w) (i * w + w - i * w) cells)) now next
+        (L + 1 + stride * (runs + n)) m) where
+      its : Extracted left (lineOf w (map f cells) i) now next (L + 1 + stride * (runs + n)) m
+      its = subst (λ (l : List Bool). Extracted left l now next (L + 1 + stride * (runs + n)) m) (line-flags f w i cells) X
 
-      -- the count of runs fits a word
-      pub block-small : n + m < 4294967296
-      block-small = line-small left w L fed runs (map f cells) k ws R i h now n B next m its
+      -- the count of runs fits a word, and that of nonzero cells is within the cells
+      pub block-small : runs + (n + m .runs) < 4294967296
+      block-small = line-small left w L fed runs (map f cells) k ws R i h now n c B next m its
 
-      pub block-then : Block left w L fed runs (i + 1) (map f cells) ws (set next (fed + i + 1) (n + m)) (n + m)
-      block-then = line-then left w L fed runs (map f cells) k ws R i h now n B next m its
+      pub block-few : c + m .cells ≤ length cells
+      block-few = omega (arith, line-few left w L fed runs (map f cells) k ws R i h now n c B next m its, length-map cells f)
+
+      pub block-then : Block left w L fed runs (i + 1) (map f cells) ws (set next (fed + i + 1) (runs + (n + m .runs)))
+          (record { runs = n + m .runs; cells = c + m .cells })
+      block-then = line-then left w L fed runs (map f cells) k ws R i h now n c B next m its

@@ -5,12 +5,13 @@ use mathlib.Core.Logic.{_≢_}
 use mathlib.Core.Bool.{Bool}
 use mathlib.Core.List.{List}
 use Prim.Native.Nat.{ℕ, suc, _+_, _*_, _^_, _≤_, _<_}
-use lib.ListN.{length, getD}
+use lib.ListN.{length, getD, take}
 use Rattle.groups.specs.Groups.{Edge, gather, rep, joins, visit}
-use Rattle.frame.specs.Runs.{Run, none, lineRuns, lineOf}
+use Rattle.frame.specs.Runs.{nonzeroCells, Run, none, lineRuns, lineOf}
 use Rattle.frame.specs.Touches.{touches}
 use Rattle.frame.specs.Memory.{stride}
 use Rattle.frame.specs.Words.{linePlace, startPlace, endPlace, parentPlace, lineStart, parentOf, storedRun, NoParent}
+use Rattle.runs.specs.declared.Counts.{Counts}
 use Rattle.forest.specs.Forest.{rootOf, grouping}
 use Rattle.sweep.specs.Sweeps.{InOrder}
 use Rattle.geo.specs.declared.Geo.{Geo}
@@ -21,6 +22,10 @@ use Rattle.geo.specs.Geometry.{leadingOf, ThreeDims}
 -- the runs of the first k lines of those flags, in order
 unfoldable pub linesRuns : Bool → ℕ → List Bool → ℕ → List Run
 linesRuns left w flags k = gather (λ ℓ. lineRuns left (lineOf w flags ℓ)) 0 k
+
+-- how many cells of these lines are nonzero
+unfoldable pub linesCells : ℕ → List Bool → ℕ → ℕ
+linesCells w flags k = nonzeroCells (take (k * w) flags)
 
 -- what it asks: the flags are those of k lines that the frame still has, and there is room for their runs, whose numbers words hold
 pub record BlockRoom (left : Bool) (w L fed runs k : ℕ) (flags : List Bool) (ws : List ℕ) : Type 0 where
@@ -36,10 +41,11 @@ pub record Unwritten (L fed runs m n j : ℕ) : Type 0 where
   pub no-start : (r : ℕ) → r < n → j ≢ startPlace L (runs + r)
   pub no-end : (r : ℕ) → r < n → j ≢ endPlace L (runs + r)
 
--- what it does: n is the count of runs then, the new line starts and the new runs' starts and ends are written, and every other word
--- stands
-pub record Block (left : Bool) (w L fed runs k : ℕ) (flags : List Bool) (ws ws′ : List ℕ) (n : ℕ) : Type 0 where
-  pub counted : n ≡ runs + length (linesRuns left w flags k)
+-- what it does: it counts the new runs and their cells, the new line starts and the new runs' starts and ends are written, and every
+-- other word stands
+pub record Block (left : Bool) (w L fed runs k : ℕ) (flags : List Bool) (ws ws′ : List ℕ) (c : Counts) : Type 0 where
+  pub counted : c .runs ≡ length (linesRuns left w flags k)
+  pub total : c .cells ≡ linesCells w flags k
   pub long : length ws′ ≡ length ws
   pub lined : (i : ℕ) → i < k → lineStart ws′ (fed + suc i) ≡ runs + length (linesRuns left w flags (suc i))
   pub ran : (r : ℕ) → r < length (linesRuns left w flags k) → storedRun L ws′ (runs + r) ≡ getD (linesRuns left w flags k) r none
@@ -49,8 +55,8 @@ pub record Block (left : Bool) (w L fed runs k : ℕ) (flags : List Bool) (ws ws
 abbrev pub RoomFor : Geo → ℕ → ℕ → ℕ → List Bool → List ℕ → Type 0
 RoomFor g fed runs k flags ws = BlockRoom (g .left) (g .width) (g .lines) fed runs k flags ws
 
-abbrev pub Extracts : Geo → ℕ → ℕ → ℕ → List Bool → List ℕ → List ℕ → ℕ → Type 0
-Extracts g fed runs k flags ws ws′ n = Block (g .left) (g .width) (g .lines) fed runs k flags ws ws′ n
+abbrev pub Extracts : Geo → ℕ → ℕ → ℕ → List Bool → List ℕ → List ℕ → Counts → Type 0
+Extracts g fed runs k flags ws ws′ c = Block (g .left) (g .width) (g .lines) fed runs k flags ws ws′ c
 
 -- ---- union
 

@@ -1,12 +1,13 @@
 // Lines of a feed: their runs are extracted, then united with their neighbours. Nothing here knows a record.
 //
-//     extract_block_T   the runs of new lines, for each kind of cell: line starts, starts and ends
+//     extract_block_T   the runs of new lines, for each kind of cell: line starts, starts and ends; and the count of nonzero cells
 //     union_block       the union of new lines with their neighbours, once their runs are there: parents
 ghost use mathlib.Core.List.{map};
 ghost use Rattle.frame.specs.Kinds.{nz, nzℤ, nzF};
 ghost use Rattle.block.specs.Blocks.{RoomFor, Extracts, BlockReady, BlockUnited, ResetReady, ResetIn};
 
-// ---- extraction, for each kind of cell: the runs of `k` lines after `fed` lines with `runs` runs; how many runs there are then
+// ---- extraction, for each kind of cell: the runs of `k` lines after `fed` lines with `runs` runs; how many they have, and how many
+// nonzero cells
 
 pub fn extract_block_u8(
     cells: &[u8],
@@ -15,21 +16,28 @@ pub fn extract_block_u8(
     fed: usize,
     runs: usize,
     k: usize,
-) -> usize
+) -> runs::Counts
     requires { ⌜ RoomFor g fed runs k (map nz (now cells)) (now words) ⌝ }
-    ensures { λ count. ⌜ Extracts g fed runs k (map nz (now (cells .entry))) (now (words .entry)) (now (words .exit)) count ⌝ }
+    ensures { λ c. ⌜ Extracts g fed runs k (map nz (now (cells .entry))) (now (words .entry)) (now (words .exit)) c ⌝ }
 {
     let base = g.lines + 1;
-    let mut count = runs;
+    let mut new: usize = 0;
+    let mut total: usize = 0;
     let mut i: usize = 0;
     while i < k {
         let a = i * g.width;
         let e = a + g.width;
-        count += runs::extract_line_u8(&cells[a..e], g.left, words, base + frame::STRIDE * count);
-        words[fed + i + 1] = count as u32;
+        let at = base + frame::STRIDE * (runs + new);
+        let line = runs::extract_line_u8(&cells[a..e], g.left, words, at);
+        new += line.runs;
+        total += line.cells;
+        words[fed + i + 1] = (runs + new) as u32;
         i += 1;
     }
-    count
+    runs::Counts {
+        runs: new,
+        cells: total,
+    }
 }
 
 pub fn extract_block_u16(
@@ -39,21 +47,28 @@ pub fn extract_block_u16(
     fed: usize,
     runs: usize,
     k: usize,
-) -> usize
+) -> runs::Counts
     requires { ⌜ RoomFor g fed runs k (map nz (now cells)) (now words) ⌝ }
-    ensures { λ count. ⌜ Extracts g fed runs k (map nz (now (cells .entry))) (now (words .entry)) (now (words .exit)) count ⌝ }
+    ensures { λ c. ⌜ Extracts g fed runs k (map nz (now (cells .entry))) (now (words .entry)) (now (words .exit)) c ⌝ }
 {
     let base = g.lines + 1;
-    let mut count = runs;
+    let mut new: usize = 0;
+    let mut total: usize = 0;
     let mut i: usize = 0;
     while i < k {
         let a = i * g.width;
         let e = a + g.width;
-        count += runs::extract_line_u16(&cells[a..e], g.left, words, base + frame::STRIDE * count);
-        words[fed + i + 1] = count as u32;
+        let at = base + frame::STRIDE * (runs + new);
+        let line = runs::extract_line_u16(&cells[a..e], g.left, words, at);
+        new += line.runs;
+        total += line.cells;
+        words[fed + i + 1] = (runs + new) as u32;
         i += 1;
     }
-    count
+    runs::Counts {
+        runs: new,
+        cells: total,
+    }
 }
 
 pub fn extract_block_i16(
@@ -63,21 +78,28 @@ pub fn extract_block_i16(
     fed: usize,
     runs: usize,
     k: usize,
-) -> usize
+) -> runs::Counts
     requires { ⌜ RoomFor g fed runs k (map nzℤ (now cells)) (now words) ⌝ }
-    ensures { λ count. ⌜ Extracts g fed runs k (map nzℤ (now (cells .entry))) (now (words .entry)) (now (words .exit)) count ⌝ }
+    ensures { λ c. ⌜ Extracts g fed runs k (map nzℤ (now (cells .entry))) (now (words .entry)) (now (words .exit)) c ⌝ }
 {
     let base = g.lines + 1;
-    let mut count = runs;
+    let mut new: usize = 0;
+    let mut total: usize = 0;
     let mut i: usize = 0;
     while i < k {
         let a = i * g.width;
         let e = a + g.width;
-        count += runs::extract_line_i16(&cells[a..e], g.left, words, base + frame::STRIDE * count);
-        words[fed + i + 1] = count as u32;
+        let at = base + frame::STRIDE * (runs + new);
+        let line = runs::extract_line_i16(&cells[a..e], g.left, words, at);
+        new += line.runs;
+        total += line.cells;
+        words[fed + i + 1] = (runs + new) as u32;
         i += 1;
     }
-    count
+    runs::Counts {
+        runs: new,
+        cells: total,
+    }
 }
 
 pub fn extract_block_f32(
@@ -87,21 +109,28 @@ pub fn extract_block_f32(
     fed: usize,
     runs: usize,
     k: usize,
-) -> usize
+) -> runs::Counts
     requires { ⌜ RoomFor g fed runs k (map nzF (now cells)) (now words) ⌝ }
-    ensures { λ count. ⌜ Extracts g fed runs k (map nzF (now (cells .entry))) (now (words .entry)) (now (words .exit)) count ⌝ }
+    ensures { λ c. ⌜ Extracts g fed runs k (map nzF (now (cells .entry))) (now (words .entry)) (now (words .exit)) c ⌝ }
 {
     let base = g.lines + 1;
-    let mut count = runs;
+    let mut new: usize = 0;
+    let mut total: usize = 0;
     let mut i: usize = 0;
     while i < k {
         let a = i * g.width;
         let e = a + g.width;
-        count += runs::extract_line_f32(&cells[a..e], g.left, words, base + frame::STRIDE * count);
-        words[fed + i + 1] = count as u32;
+        let at = base + frame::STRIDE * (runs + new);
+        let line = runs::extract_line_f32(&cells[a..e], g.left, words, at);
+        new += line.runs;
+        total += line.cells;
+        words[fed + i + 1] = (runs + new) as u32;
         i += 1;
     }
-    count
+    runs::Counts {
+        runs: new,
+        cells: total,
+    }
 }
 
 // ---- union

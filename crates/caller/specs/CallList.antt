@@ -80,7 +80,7 @@ noCall = 101
 
 -- eight numbers for what is answered: 0 or a cause, lines fed or n, the figures, and zeros for the rest
 abbrev pub eightNumbers : ℕ → ℕ → Figures → List ℕ
-eightNumbers number count f = number ∷ count ∷ f .runs ∷ f .joins ∷ 0 ∷ 0 ∷ 0 ∷ 0 ∷ []
+eightNumbers number count f = number ∷ count ∷ f .runs ∷ f .joins ∷ f .cells ∷ 0 ∷ 0 ∷ 0 ∷ []
 
 abbrev pub answerNumbers : Answer → List ℕ
 answerNumbers (fed l f) = eightNumbers 0 l f

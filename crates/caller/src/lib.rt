@@ -73,7 +73,7 @@ fn put_answer(
     ensures { λ r. ⌜ Adds (eightNumbers number count figures) (now (answers .entry)) at (now (answers .exit)) r ⌝ }
 {
     let next = put_four(answers, at, number, count, figures.runs, figures.joins);
-    put_four(answers, next, 0, 0, 0, 0)
+    put_four(answers, next, figures.cells as u64, 0, 0, 0)
 }
 
 // Of a refusal, and of what is no call: its number alone.

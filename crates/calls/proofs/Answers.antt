@@ -40,18 +40,18 @@ ran : Ran
 ran = doCalls (begun .session) (begun .words) calls
 
 answers-right : ran .answers ≡
-    record { said = fed 1 (f 2 0); written = nothing }
+    record { said = fed 1 (f 2 0 2); written = nothing }
     ∷ record { said = refused 7; written = nothing }
     ∷ record { said = refused 8; written = nothing }
-    ∷ record { said = fed 2 (f 4 2); written = nothing }
-    ∷ record { said = counted 2 (f 4 2); written = numbers u8 (1 ∷ 0 ∷ 2 ∷ 1 ∷ 0 ∷ 2 ∷ 0 ∷ 0 ∷ 0 ∷ []) }
+    ∷ record { said = fed 2 (f 4 2 4); written = nothing }
+    ∷ record { said = counted 2 (f 4 2 4); written = numbers u8 (1 ∷ 0 ∷ 2 ∷ 1 ∷ 0 ∷ 2 ∷ 0 ∷ 0 ∷ 0 ∷ []) }
     ∷ record { said = refused 9; written = numbers u16 (replicate 8 5) }
-    ∷ record { said = counted 2 (f 4 2); written = numbers u16 (1 ∷ 0 ∷ 2 ∷ 1 ∷ 0 ∷ 2 ∷ 0 ∷ 0 ∷ 0 ∷ []) }
+    ∷ record { said = counted 2 (f 4 2 4); written = numbers u16 (1 ∷ 0 ∷ 2 ∷ 1 ∷ 0 ∷ 2 ∷ 0 ∷ 0 ∷ 0 ∷ []) }
     ∷ record { said = refused 9; written = counts (5 ∷ []) }
-    ∷ record { said = fed 2 (f 4 2); written = nothing }
-    ∷ record { said = fed 3 (f 5 4); written = nothing }
-    ∷ record { said = counted 1 (f 5 4); written = counts (7 ∷ []) }
-    ∷ record { said = counted 1 (f 5 4); written = numbers u32 (1 ∷ 0 ∷ 1 ∷ 1 ∷ 0 ∷ 1 ∷ 1 ∷ 1 ∷ 1 ∷ []) }
+    ∷ record { said = fed 2 (f 4 2 4); written = nothing }
+    ∷ record { said = fed 3 (f 5 4 7); written = nothing }
+    ∷ record { said = counted 1 (f 5 4 7); written = counts (7 ∷ []) }
+    ∷ record { said = counted 1 (f 5 4 7); written = numbers u32 (1 ∷ 0 ∷ 1 ∷ 1 ∷ 0 ∷ 1 ∷ 1 ∷ 1 ∷ 1 ∷ []) }
     ∷ []
 unfolding ran calls begun computed doCalls flags nz nzℤ nzF
 answers-right = refl

@@ -1,4 +1,4 @@
--- The plain session's own answers: runs = n + joins, and 6 never comes.
+-- The plain session's own answers: runs = n + joins, the total is the count of nonzero cells fed, and 6 never comes.
 -- Assumes nothing.
 use mathlib.Core.Path.{_≡_, refl, sym, _∙_, subst}
 use mathlib.Core.List.{List, [], _∷_}
@@ -11,7 +11,7 @@ use Rattle.calls.specs.Demand3.{Balanced, Right, AllRight}
 module _ (shape : List ℕ) where
   pub figures-right : (p : State) → Balanced shape p (figures shape p)
   unfolding figures groupsOf
-  figures-right p = record { runs-defined = refl; balance = balanced shape p }
+  figures-right p = record { runs-defined = refl; balance = balanced shape p; total = refl }
 
   answer-right : (p : State) (c : Call) → cause shape p c ≡ 0 → Right shape (next shape p c) (answer shape p c)
   unfolding answer feeds groupsOf

@@ -19,18 +19,22 @@ use Rattle.calls.proofs.AfterLaws.{number-is}
 abbrev two : State
 two = record { structure = cross; fed = 2; cells = line ++ line }
 
--- joins padded with idle unions; runs invented with them; runs counted as n; 6
-padded-joins : Right frame two (fed 2 (f 4 3)) → ⊥
+-- joins padded with idle unions; runs invented with them; runs counted as n; the total of the feed before; 6
+padded-joins : Right frame two (fed 2 (f 4 3 4)) → ⊥
 unfolding computed
 padded-joins P = let z : _≡_ {A = ℕ} 4 5 = P .1 .balance in omega arith
 
-invented-runs : Right frame two (fed 2 (f 5 3)) → ⊥
+invented-runs : Right frame two (fed 2 (f 5 3 4)) → ⊥
 unfolding computed
 invented-runs P = let z : _≡_ {A = ℕ} 5 4 = P .1 .runs-defined in omega arith
 
-runs-as-n : Right frame two (counted 4 (f 4 0)) → ⊥
+runs-as-n : Right frame two (counted 4 (f 4 0 4)) → ⊥
 unfolding computed
 runs-as-n P = let z : _≡_ {A = ℕ} 4 2 = P .0 in omega arith
+
+total-kept : Right frame two (fed 2 (f 4 2 2)) → ⊥
+unfolding computed
+total-kept P = let z : _≡_ {A = ℕ} 2 4 = P .1 .total in omega arith
 
 six : Right frame two (refused 6) → ⊥
 six P = P refl

@@ -12,7 +12,7 @@ use Rattle.groups.specs.Groups.{Chain, count}
 use Rattle.frame.specs.Shape.{size, lines}
 use Rattle.frame.specs.ChainRule.{nonzero, Step, Labelled, groupCount}
 use Rattle.frame.specs.Scipy.{ScipyLabelled}
-use Rattle.frame.specs.Runs.{runs, runOf, SmallestRun}
+use Rattle.frame.specs.Runs.{runs, nonzeroCells, runOf, SmallestRun}
 use Rattle.frame.specs.Kinds.{Number, largest, Value, write, value}
 use Rattle.frame.specs.declared.Figures.{Figures}
 use Rattle.frame.specs.Plain.{Call, Answer, fed, counted, refused, Answered, State, opened, next, plain, after}
@@ -33,6 +33,8 @@ module _ (shape : List ℕ) where
   pub record Balanced (p : State) (f : Figures) : Type 0 where
     pub runs-defined : f .runs ≡ runs shape (p .structure) (p .cells)
     pub balance : f .runs ≡ groupsIn p + f .joins
+    -- document 02, F-1: "the nonzero cells so far"
+    pub total : f .cells ≡ nonzeroCells (p .cells)
 
   -- so of a feed's answer, which has the lines fed, and of a reading's or size call's, which has n. Of a refusal: 6 never comes
   abbrev pub Right : State → Answer → Type 0

@@ -41,13 +41,13 @@ fn say_number(wanted: &mut [u64; 16384], at: usize, x: u64) {
     }
 }
 
-// The eight numbers of an answer, of which the last four are 0.
+// The eight numbers of an answer, of which the last three are 0.
 fn say(wanted: &mut [u64; 16384], at: usize, answer: Answer) {
     say_number(wanted, at, answer.number as u64);
     say_number(wanted, plus(at, 1), answer.count as u64);
     say_number(wanted, plus(at, 2), answer.figures.runs as u64);
     say_number(wanted, plus(at, 3), answer.figures.joins as u64);
-    say_number(wanted, plus(at, 4), 0);
+    say_number(wanted, plus(at, 4), answer.figures.cells as u64);
     say_number(wanted, plus(at, 5), 0);
     say_number(wanted, plus(at, 6), 0);
     say_number(wanted, plus(at, 7), 0);

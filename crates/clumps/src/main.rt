@@ -3,7 +3,7 @@
 use libc::STDIN_FILENO;
 use libc::STDOUT_FILENO;
 
-// Prints the answer to a text. No answer has more than 11,561 bytes (clumps_text's `output-most`), and the buffer has 65,536.
+// Prints the answer to a text. No answer has more than 11,572 bytes (clumps_text's `output-most`), and the buffer has 65,536.
 fn answer(text: &[u8]) {
     let mut out = io::large_buffer();
     let n = clumps_text::report(text, &mut out);

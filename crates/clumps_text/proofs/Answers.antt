@@ -9,7 +9,7 @@ use Rattle.groups.specs.Numbers.{number}
 use Rattle.frame.specs.Shape.{size, width, leading, coords}
 use Rattle.frame.specs.Structure.{offset, backward, on, leftOn}
 use Rattle.frame.specs.ChainRule.{nonzero, sameList, any, leadsBy, edgesBy, edges, groupCount, label, range, labels}
-use Rattle.frame.specs.Runs.{goesOn, beginsRun, runs}
+use Rattle.frame.specs.Runs.{goesOn, beginsRun, runs, nonzeroCells}
 use Rattle.frame.specs.Causes.{unlike, lopsided}
 use Rattle.frame.specs.declared.Figures.{Figures}
 use Rattle.frame.specs.Plain.{feeds, groupsOf, figures}
@@ -21,8 +21,8 @@ use Rattle.clumps_text.specs.Output.{structureBytes, refusalText, labell
 -- what the computation of an output opens
 computed : Unit {0}
 unfolding merge rep isRoot count groups gather pairs number size width leading coords offset backward on leftOn nonzero sameList any
-    leadsBy edgesBy edges groupCount label range labels goesOn beginsRun runs unlike lopsided feeds groupsOf figures zipWith digits
-    decimal blankBefore decimals flagCharacter widthName linesName structureName cellsName runsName joinsName objectsName labelsName
+    leadsBy edgesBy edges groupCount label range labels goesOn beginsRun runs nonzeroCells unlike lopsided feeds groupsOf figures zipWith
+    digits decimal blankBefore decimals flagCharacter widthName linesName structureName cellsName runsName joinsName objectsName labelsName
     refusedName andThen parseExactly digitsValue parseNumber parseFlags flagsGiven lastLines parse structureBytes refusalText labelledText
     outputTo printed clumpsOf
 computed = tt
@@ -37,11 +37,12 @@ example =
     115 ∷ 116 ∷ 114 ∷ 117 ∷ 99 ∷ 116 ∷ 117 ∷ 114 ∷ 101 ∷ 61 ∷ 48 ∷ 49 ∷ 48 ∷ 49 ∷ 49 ∷ 49 ∷ 48 ∷ 49 ∷ 48 ∷ 10 ∷
     99 ∷ 101 ∷ 108 ∷ 108 ∷ 115 ∷ 61 ∷ 49 ∷ 48 ∷ 49 ∷ 49 ∷ 48 ∷ 49 ∷ 49 ∷ 49 ∷ 49 ∷ 10 ∷ []
 
--- runs=5, joins=4, objects=1, labels=1 0 1 1 0 1 1 1 1
+-- runs=5, joins=4, cells=7, objects=1, labels=1 0 1 1 0 1 1 1 1
 example-output : List ℕ
 example-output =
     114 ∷ 117 ∷ 110 ∷ 115 ∷ 61 ∷ 53 ∷ 10 ∷
     106 ∷ 111 ∷ 105 ∷ 110 ∷ 115 ∷ 61 ∷ 52 ∷ 10 ∷
+    99 ∷ 101 ∷ 108 ∷ 108 ∷ 115 ∷ 61 ∷ 55 ∷ 10 ∷
     111 ∷ 98 ∷ 106 ∷ 101 ∷ 99 ∷ 116 ∷ 115 ∷ 61 ∷ 49 ∷ 10 ∷
     108 ∷ 97 ∷ 98 ∷ 101 ∷ 108 ∷ 115 ∷ 61 ∷ 49 ∷ 32 ∷ 48 ∷ 32 ∷ 49 ∷ 32 ∷ 49 ∷ 32 ∷ 48 ∷ 32 ∷ 49 ∷ 32 ∷ 49 ∷ 32 ∷ 49 ∷ 32 ∷ 49 ∷ 10 ∷ []
 
@@ -64,27 +65,27 @@ c k v = characters k v []
 text : List ℕ → List ℕ → List ℕ → List ℕ → List ℕ → List ℕ
 text w l s cells past = line widthName w (line linesName l (line structureName s (line cellsName cells past)))
 
-abbrev f : ℕ → ℕ → Figures
-f r j = record { runs = r; joins = j }
+abbrev f : ℕ → ℕ → ℕ → Figures
+f r j c = record { runs = r; joins = j; cells = c }
 
 -- an empty structure line is the default's; nine ones join 10/01 where it does not
 cross-right : map clumpsOf (text (c 1 3) (c 1 3) [] (c 9 101101111) [] ∷ text (c 1 2) (c 1 2) [] (c 4 1001) [] ∷ text (c 1 2) (c 1 2)
-    (c 9 10111010) (c 4 1001) [] ∷ text (c 1 2) (c 1 2) (c 9 111111111) (c 4 1001) [] ∷ []) ≡ example-output ∷ labelledText 2 (f 2 0)
-    (1 ∷ 0 ∷ 0 ∷ 2 ∷ []) ∷ labelledText 2 (f 2 0) (1 ∷ 0 ∷ 0 ∷ 2 ∷ []) ∷ labelledText 1 (f 2 1) (1 ∷ 0 ∷ 0 ∷ 1 ∷ []) ∷ []
+    (c 9 10111010) (c 4 1001) [] ∷ text (c 1 2) (c 1 2) (c 9 111111111) (c 4 1001) [] ∷ []) ≡ example-output ∷ labelledText 2 (f 2 0 2)
+    (1 ∷ 0 ∷ 0 ∷ 2 ∷ []) ∷ labelledText 2 (f 2 0 2) (1 ∷ 0 ∷ 0 ∷ 2 ∷ []) ∷ labelledText 1 (f 2 1 2) (1 ∷ 0 ∷ 0 ∷ 1 ∷ []) ∷ []
 unfolding example-output text characters computed
 cross-right = refl
 
 -- the shape is lines, width: two cells in a line are one run, one below the other they are two
 shape-right : map clumpsOf (text (c 1 2) (c 1 1) [] (c 2 11) [] ∷ text (c 1 1) (c 1 2) [] (c 2 11) [] ∷ [])
-    ≡ labelledText 1 (f 1 0) (1 ∷ 1 ∷ []) ∷ labelledText 1 (f 2 1) (1 ∷ 1 ∷ []) ∷ []
+    ≡ labelledText 1 (f 1 0 2) (1 ∷ 1 ∷ []) ∷ labelledText 1 (f 2 1 2) (1 ∷ 1 ∷ []) ∷ []
 unfolding text characters computed
 shape-right = refl
 
 -- twelve lone cells: numbers of two digits
 twelve-right : clumpsOf (text (c 2 23) (c 1 1) [] (c 23 10101010101010101010101) [])
-    ≡ line runsName (c 2 12) (line joinsName (c 1 0)
+    ≡ line runsName (c 2 12) (line joinsName (c 1 0) (line cellsName (c 2 12)
     (line objectsName (c 2 12) (line labelsName
-    (decimals (1 ∷ 0 ∷ 2 ∷ 0 ∷ 3 ∷ 0 ∷ 4 ∷ 0 ∷ 5 ∷ 0 ∷ 6 ∷ 0 ∷ 7 ∷ 0 ∷ 8 ∷ 0 ∷ 9 ∷ 0 ∷ 10 ∷ 0 ∷ 11 ∷ 0 ∷ 12 ∷ [])) [])))
+    (decimals (1 ∷ 0 ∷ 2 ∷ 0 ∷ 3 ∷ 0 ∷ 4 ∷ 0 ∷ 5 ∷ 0 ∷ 6 ∷ 0 ∷ 7 ∷ 0 ∷ 8 ∷ 0 ∷ 9 ∷ 0 ∷ 10 ∷ 0 ∷ 11 ∷ 0 ∷ 12 ∷ [])) []))))
 unfolding text characters computed
 twelve-right = refl
 

@@ -10,7 +10,7 @@ use Rattle.frame.specs.Shape.{size}
 use Rattle.frame.specs.ChainRule.{Labelled, groupCount, labels}
 use Rattle.frame.specs.Scipy.{ScipyLabelled}
 use Rattle.frame.specs.Causes.{lopsided}
-use Rattle.frame.specs.Runs.{runs}
+use Rattle.frame.specs.Runs.{runs, nonzeroCells}
 use Rattle.frame.specs.Plain.{feeds, groupsOf, figures}
 use Rattle.frame.proofs.ChainRuleLaws.{labels-right, length-labels}
 use Rattle.frame.proofs.SymmetryLaws.{symmetric-test}
@@ -28,7 +28,7 @@ pub record Labelling (f : TextFrame) (out : List ℕ) : Type 0 where
   pub one-each : length ns ≡ size (frameShape f)
   pub labelled : Labelled (frameShape f) (frameStructure f) (f .cells) n (λ p. getD ns p 0)
   pub described : ScipyLabelled (frameShape f) (frameStructure f) (f .cells) n (λ p. getD ns p 0)
-  pub prints : out ≡ labelledText n (record { runs = runsIn f; joins = runsIn f - n }) ns
+  pub prints : out ≡ labelledText n (record { runs = runsIn f; joins = runsIn f - n; cells = nonzeroCells (f .cells) }) ns
 
 pub chain-rule : (text : List ℕ) (f : TextFrame) → parse text ≡ parsed f [] → lopsided 2 (frameStructure f) ≡ false
     → Labelling f (clumpsOf text)

@@ -1,5 +1,5 @@
 -- How long texts get: no accepted text has more than 2,349 bytes, so a longer one is refused (`long-refused`), and no output has more
--- than 11,561 (`output-most`).
+-- than 11,572 (`output-most`).
 -- Assumes nothing.
 use mathlib.Core.Path.{_≡_, refl, ap, subst}
 use mathlib.Core.Logic.{_⊎_, inl, inr}
@@ -15,10 +15,11 @@ use Rattle.groups.proofs.CountLaws.{count-most}
 use Rattle.frame.specs.Shape.{size}
 use Rattle.frame.specs.ChainRule.{nonzero, groupCount, labels}
 use Rattle.frame.specs.Causes.{lopsided}
-use Rattle.frame.specs.Runs.{beginsRun, runs}
+use Rattle.frame.specs.Runs.{beginsRun, runs, nonzeroCells}
 use Rattle.frame.specs.declared.Figures.{Figures}
 use Rattle.frame.specs.Plain.{feeds, groupsOf, figures}
 use Rattle.frame.proofs.ChainRuleLaws.{labels-right, length-labels}
+use Rattle.frame.proofs.CellLaws.{cells-most}
 use Rattle.clumps_text.specs.Text.{decimal, blankBefore, decimals, flagCharacter, widthName, linesName, structureName, cellsName}
 use Rattle.clumps_text.specs.Text.{runsName, joinsName, objectsName, labelsName, refusedName}
 use Rattle.clumps_text.specs.Input.{TextFrame, Accepted, textBefore, Parsed, parsed, bad, parse}
@@ -71,37 +72,41 @@ decimals-most (n ∷ ns) h m =
 
 -- ---- outputs
 
-refusal-text-most : (cause : ℕ) → cause < 100 → length (refusalText cause) ≤ 11561
+refusal-text-most : (cause : ℕ) → cause < 100 → length (refusalText cause) ≤ 11572
 unfolding refusalText refusedName
 refusal-text-most cause h =
     let t = two-digits cause h in
     simp length-append (omega arith)
 
-labelled-text-most : (n : ℕ) (f : Figures) (ns : List ℕ) → f .runs < 10000 → f .joins < 10000 → n < 10000 → Small ns → length ns ≤ 2304
-    → length (labelledText n f ns) ≤ 11561
-unfolding labelledText runsName joinsName objectsName labelsName
-labelled-text-most n f ns a b c s m =
+labelled-text-most : (n : ℕ) (f : Figures) (ns : List ℕ) → f .runs < 10000 → f .joins < 10000 → f .cells < 10000 → n < 10000 → Small ns
+    → length ns ≤ 2304 → length (labelledText n f ns) ≤ 11572
+unfolding labelledText runsName joinsName cellsName objectsName labelsName
+labelled-text-most n f ns a b t c s m =
     let x = four-digits (f .runs) a in
     let y = four-digits (f .joins) b in
+    let u = four-digits (f .cells) t in
     let z = four-digits n c in
     let w = decimals-most ns s m in
     simp length-append (omega arith)
 
-either-most : (b : Bool) (xs ys : List ℕ) → length xs ≤ 11561 → length ys ≤ 11561 → length (cond b xs ys) ≤ 11561
+either-most : (b : Bool) (xs ys : List ℕ) → length xs ≤ 11572 → length ys ≤ 11572 → length (cond b xs ys) ≤ 11572
 either-most true xs ys h k = h
 either-most false xs ys h k = k
 
 module _ (f : TextFrame) (a : Accepted f) where
-  cells-most : size (frameShape f) ≤ 2304
+  size-most : size (frameShape f) ≤ 2304
   unfolding size
-  cells-most = omega (arith, product (a .most-lines) (a .most-width))
+  size-most = omega (arith, product (a .most-lines) (a .most-width))
 
   count-small : groupCount (frameShape f) (frameStructure f) (f .cells) < 10000
-  count-small = omega (arith, groups-most (frameShape f) (frameStructure f) (f .cells), cells-most)
+  count-small = omega (arith, groups-most (frameShape f) (frameStructure f) (f .cells), size-most)
 
   runs-small : runs (frameShape f) (frameStructure f) (f .cells) < 10000
   unfolding runs
-  runs-small = omega (arith, count-most (beginsRun (frameShape f) (frameStructure f) (f .cells)) (size (frameShape f)), cells-most)
+  runs-small = omega (arith, count-most (beginsRun (frameShape f) (frameStructure f) (f .cells)) (size (frameShape f)), size-most)
+
+  total-small : nonzeroCells (f .cells) < 10000
+  total-small = omega (arith, cells-most (f .cells), a .all-cells, product (a .most-lines) (a .most-width))
 
   labels-small : Small (labels (frameShape f) (frameStructure f) (f .cells))
   unfolding Small
@@ -114,18 +119,19 @@ module _ (f : TextFrame) (a : Accepted f) where
       go true e = omega (arith, labels-right (frameShape f) (frameStructure f) (f .cells) .on p l e .1, count-small)
       go false e = omega (arith, labels-right (frameShape f) (frameStructure f) (f .cells) .off p l e)
 
-  accepted-most : length (outputOf f) ≤ 11561
+  accepted-most : length (outputOf f) ≤ 11572
   unfolding outputTo figures groupsOf feeds
   accepted-most =
       let long = length-labels (frameShape f) (frameStructure f) (f .cells) in
       either-most (lopsided 2 (frameStructure f)) _ _ (refusal-text-most 12 (omega arith))
-      (labelled-text-most _ _ _ runs-small (omega (arith, runs-small)) count-small labels-small (omega (arith, long, cells-most)))
+      (labelled-text-most _ _ _ runs-small (omega (arith, runs-small)) total-small count-small labels-small
+      (omega (arith, long, size-most)))
 
-pub output-most : (text : List ℕ) → length (clumpsOf text) ≤ 11561
+pub output-most : (text : List ℕ) → length (clumpsOf text) ≤ 11572
 unfolding clumpsOf printed
 output-most text = go (parse text) refl
   where
-    go : (x : Parsed TextFrame) → parse text ≡ x → length (printed x) ≤ 11561
+    go : (x : Parsed TextFrame) → parse text ≡ x → length (printed x) ≤ 11572
     go (parsed f []) e = accepted-most f (parse-back text f [] e .accepted)
     go (parsed f (b ∷ rest)) e = refusal-text-most 11 (omega arith)
     go bad e = refusal-text-most 11 (omega arith)

@@ -9,7 +9,7 @@ use Rattle.frame.specs.Causes.{lopsided}
 use Rattle.frame.specs.declared.Figures.{Figures}
 use Rattle.frame.specs.Plain.{figures}
 use Rattle.label.specs.WholeFrame.{allFed}
-use Rattle.clumps_text.specs.Text.{line, decimal, decimals, runsName, joinsName, objectsName, labelsName, refusedName}
+use Rattle.clumps_text.specs.Text.{line, decimal, decimals, cellsName, runsName, joinsName, objectsName, labelsName, refusedName}
 use Rattle.clumps_text.specs.Input.{TextFrame, Parsed, parsed, bad, parse}
 
 -- ---- the frame that is labelled
@@ -39,7 +39,8 @@ refusalText cause = line refusedName (decimal cause) []
 unfoldable pub labelledText : ℕ → Figures → List ℕ → List ℕ
 labelledText n f labels =
     line runsName (decimal (f .runs))
-    (line joinsName (decimal (f .joins)) (line objectsName (decimal n) (line labelsName (decimals labels) [])))
+    (line joinsName (decimal (f .joins))
+    (line cellsName (decimal (f .cells)) (line objectsName (decimal n) (line labelsName (decimals labels) []))))
 
 -- a lopsided structure is refused by 12. Else objects is n, and the figures are those of all lines fed
 unfoldable pub outputTo : List ℕ → List ℕ → List Bool → List ℕ

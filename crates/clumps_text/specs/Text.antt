@@ -48,7 +48,7 @@ linesName = 108 ∷ 105 ∷ 110 ∷ 101 ∷ 115 ∷ 61 ∷ []
 unfoldable pub structureName : List ℕ
 structureName = 115 ∷ 116 ∷ 114 ∷ 117 ∷ 99 ∷ 116 ∷ 117 ∷ 114 ∷ 101 ∷ 61 ∷ []
 
--- cells=
+-- cells=, of the cells that are read and of their total that is printed
 unfoldable pub cellsName : List ℕ
 cellsName = 99 ∷ 101 ∷ 108 ∷ 108 ∷ 115 ∷ 61 ∷ []
 

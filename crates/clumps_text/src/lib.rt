@@ -294,10 +294,11 @@ fn put_labelled_text(out: &mut [u8], n: usize, figures: frame::Figures, numbers:
 {
     let a = put_line(out, 0, b"runs=", figures.runs);
     let b = put_line(out, a, b"joins=", figures.joins);
-    let c = put_line(out, b, b"objects=", n);
-    let d = put_bytes(out, c, b"labels=");
-    let e = put_decimals(out, d, numbers);
-    put(out, e, 10)
+    let c = put_line(out, b, b"cells=", figures.cells);
+    let d = put_line(out, c, b"objects=", n);
+    let e = put_bytes(out, d, b"labels=");
+    let f = put_decimals(out, e, numbers);
+    put(out, f, 10)
 }
 
 fn put_refusal(out: &mut [u8], cause: usize) -> usize
@@ -362,7 +363,7 @@ fn label_frame(
 // ---- the program
 
 // Reads the text, labels its frame and prints the answer into `out`, as far as it reaches; answers the count of bytes printed. No output
-// has more than 11,561 bytes, and no accepted text more than 2,349 (proofs/LengthLaws.antt).
+// has more than 11,572 bytes, and no accepted text more than 2,349 (proofs/LengthLaws.antt).
 pub fn report(text: &[u8], out: &mut [u8]) -> usize
     ensures { λ r. ⌜ (now (out .exit) ≡ overlay (clumpsOf (now (text .entry))) (now (out .entry)))
         × (r ≡ min (length (clumpsOf (now (text .entry)))) (length (now (out .entry)))) ⌝ }

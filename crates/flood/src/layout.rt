@@ -2,6 +2,7 @@
 // more than 3,201.
 use crate::Extent;
 use crate::get;
+use crate::less;
 use crate::plus;
 use crate::put;
 use crate::times;
@@ -24,6 +25,17 @@ pub fn words_needed(e: Extent) -> usize {
 // Word i of a run.
 pub fn run_word(e: Extent, run: usize, i: usize) -> usize {
     plus(plus(e.lines, 1), plus(times(run, 4), i))
+}
+
+// The lengths of the first runs together, as the words have them; a start past its end adds nothing.
+pub fn sum_lengths(words: &[u32], e: Extent, runs: usize) -> usize {
+    let mut cells = 0;
+    for run in 0..runs {
+        let start = get(words, run_word(e, run, 0)) as usize;
+        let end = get(words, run_word(e, run, 1)) as usize;
+        cells = plus(cells, less(end, start));
+    }
+    cells
 }
 
 // The line starts of the lines fed, and of the next.

@@ -255,10 +255,11 @@ fn spread(
     plus(n, found)
 }
 
-// The count of groups, and of runs.
+// The count of groups, of runs, and of nonzero cells.
 pub struct Count {
     pub n: usize,
     pub runs: usize,
+    pub cells: usize,
 }
 
 // Numbers the nonzero cells among the first `fed` by their groups' first cells in C order, and the runs. `marks` holds 0 before.
@@ -274,7 +275,8 @@ pub fn number_cells(
         n = spread(e, structure, flags, fed, marks, cell, n);
     }
     let runs = name_runs(e, flags, fed, marks);
-    Count { n, runs }
+    let cells = count_numbered(marks, fed);
+    Count { n, runs, cells }
 }
 
 // ---- runs and sizes
@@ -311,6 +313,15 @@ fn name_runs(e: Extent, flags: &[u8], fed: usize, marks: &mut [u32; 1920]) -> us
         runs = plus(runs, begins_run(flags, e, cell) as usize);
     }
     runs
+}
+
+// The cells that have a number.
+fn count_numbered(marks: &[u32; 1920], fed: usize) -> usize {
+    let mut cells = 0;
+    for cell in 0..fed {
+        cells = plus(cells, (get(marks, cell) != 0) as usize);
+    }
+    cells
 }
 
 // The number of a run.

@@ -11,8 +11,8 @@ use Rattle.frame.specs.Shape.{size, width, leading, coords}
 use Rattle.frame.specs.Structure.{offset, backward, on, leftOn}
 use Rattle.frame.specs.ChainRule.{nonzero, sameList, any, leadsBy, edgesBy, edges, groupCount, label, range, labels, sizeOf, sizesOf}
 use Rattle.frame.specs.Scipy.{connecting, scipyEdges, scipyCount, scipyLabels}
-use Rattle.frame.specs.Runs.{goesOn, beginsRun, runs, Run, stretches, singles, lineRuns, lineOf, frameRuns, allRuns, runsBefore}
-use Rattle.frame.specs.Runs.{frameRun}
+use Rattle.frame.specs.Runs.{goesOn, beginsRun, runs, nonzeroCells, Run, stretches, singles, lineRuns, lineOf, frameRuns}
+use Rattle.frame.specs.Runs.{allRuns, runsBefore, frameRun}
 use Rattle.frame.specs.Touches.{reaches, used, hasNbr, nbrLine, touchesBy, touchesOf, touches, frameTouches}
 use Rattle.frame.specs.Kinds.{nz, nzℤ, nzF, flags, u8, u16, u32, largest, holds}
 use Rattle.frame.specs.Memory.{perLine, wordsNeeded}
@@ -24,8 +24,8 @@ use Rattle.frame.specs.Frames.{asked, nine, slips, refusals, frames}
 -- what the computation of a session opens
 computed : Unit {0}
 unfolding merge rep isRoot count groups gather pairs number size width leading coords offset backward on leftOn nonzero sameList any
-    leadsBy edgesBy edges groupCount label range labels sizeOf sizesOf goesOn beginsRun runs nz nzℤ nzF flags largest holds perLine
-    wordsNeeded badRank hasZero tooLarge unlike lopsided firstCause openTests openCause feedTests feedCause readTests readCause
+    leadsBy edgesBy edges groupCount label range labels sizeOf sizesOf goesOn beginsRun runs nonzeroCells nz nzℤ nzF flags largest holds
+    perLine wordsNeeded badRank hasZero tooLarge unlike lopsided firstCause openTests openCause feedTests feedCause readTests readCause
     sizesTests sizesCause unless kept feeds groupsOf figures cause answer written next plain session zipWith
 computed = tt
 

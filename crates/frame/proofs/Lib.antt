@@ -10,6 +10,7 @@ pub mod EntryLaws
 pub mod LineLaws
 pub mod RunLaws
 pub mod FrameRunLaws
+pub mod CellLaws
 pub mod NbrLaws
 pub mod ReachLaws
 pub mod TouchLaws

@@ -1,6 +1,6 @@
 -- The plain session: its lines are lines of the frame, runs = n + joins, 6 never comes, and lines fed in pieces are lines fed.
 -- Assumes nothing.
-use mathlib.Core.Path.{_≡_, refl, sym, ap₂, _∙_, subst}
+use mathlib.Core.Path.{_≡_, refl, sym, ap, ap₂, _∙_, subst}
 use mathlib.Core.Logic.{_≢_}
 use mathlib.Core.Bool.{Bool, true, false, cond}
 use mathlib.Core.List.{List, [], _∷_, _++_, append-assoc, append-nil}
@@ -12,11 +12,19 @@ use lib.Dec.{eqb}
 use lib.ListN.{length, length-append}
 use Rattle.frame.specs.Shape.{size, width, lines}
 use Rattle.frame.specs.Kinds.{Cells, flags, holds}
+use Rattle.frame.specs.declared.Figures.{Figures}
 use Rattle.frame.specs.Plain.{Call, feed, read, sizes, Answer, refused, unless, kept, State, opened, feeds, groupsOf, figures, cause}
 use Rattle.frame.specs.Plain.{next, after}
 use Rattle.frame.proofs.ShapeLaws.{Fits}
 use Rattle.frame.proofs.RunLaws.{count-runs}
 use Rattle.frame.proofs.CauseLaws.{feed-accepted, feed-six, read-six, sizes-six}
+
+-- figures are the same where each of them is
+pub figures-same : {r r′ j j′ c c′ : ℕ} → r ≡ r′ → j ≡ j′ → c ≡ c′
+    → _≡_ {A = Figures} (record { runs = r; joins = j; cells = c }) (record { runs = r′; joins = j′; cells = c′ })
+figures-same {r} {r′} {j} {j′} {c} {c′} runs joins cells =
+    ap₂ (λ (x : ℕ) (y : ℕ). record { runs = x; joins = y; cells = c }) runs joins
+    ∙ ap (λ (z : ℕ). record { runs = r′; joins = j′; cells = z }) cells
 
 -- ---- with a cause, and without
 

@@ -11,4 +11,5 @@ pub mod Memory
 pub mod Words
 pub mod Causes
 pub mod Plain
+pub mod Sums
 pub mod Frames

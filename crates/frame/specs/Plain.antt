@@ -8,7 +8,7 @@ use lib.ListN.{length}
 use Rattle.frame.specs.declared.Figures.{Figures}
 use Rattle.frame.specs.Shape.{size, width, lines}
 use Rattle.frame.specs.ChainRule.{groupCount, labels, sizesOf}
-use Rattle.frame.specs.Runs.{runs}
+use Rattle.frame.specs.Runs.{runs, nonzeroCells}
 use Rattle.frame.specs.Kinds.{Cells, flags, Number, holds, Value, write}
 use Rattle.frame.specs.Causes.{openCause, feedCause, readCause, sizesCause}
 
@@ -22,16 +22,16 @@ pub data Call : Type 0 where
   -- the size call, with what the slice holds before
   sizes : List ℕ → Call
 
--- ---- answers. Each accepted one has figures, runs and joins so far, which are a struct of the code too
+-- ---- answers. Each accepted one has figures, runs, joins and nonzero cells so far, which are a struct of the code too
 
 -- the figures before any line is fed
 abbrev pub zeroFigures : Figures
-zeroFigures = record { runs = 0; joins = 0 }
+zeroFigures = record { runs = 0; joins = 0; cells = 0 }
 
 pub data Answer : Type 0 where
-  -- a feed: lines fed, runs and joins, so far
+  -- a feed: lines fed and the figures, so far
   fed : ℕ → Figures → Answer
-  -- a reading or a size call: n, runs and joins
+  -- a reading or a size call: n and the figures
   counted : ℕ → Figures → Answer
   refused : ℕ → Answer
 
@@ -71,12 +71,17 @@ unfoldable pub feeds : State → ℕ → List Bool → State
 feeds p k cells = record { structure = p .structure; fed = p .fed + k; cells = p .cells ++ cells }
 
 module _ (shape : List ℕ) where
-  -- n, and the figures: runs, and joins as runs - n
+  -- n, and the figures: runs, joins as runs - n, and how many cells fed are nonzero
   unfoldable pub groupsOf : State → ℕ
   groupsOf p = groupCount shape (p .structure) (p .cells)
 
   unfoldable pub figures : State → Figures
-  figures p = record { runs = runs shape (p .structure) (p .cells); joins = runs shape (p .structure) (p .cells) - groupsOf p }
+  figures p =
+      record {
+        runs = runs shape (p .structure) (p .cells);
+        joins = runs shape (p .structure) (p .cells) - groupsOf p;
+        cells = nonzeroCells (p .cells);
+      }
 
   -- each call's cause: 6 never comes
   unfoldable pub cause : State → Call → ℕ

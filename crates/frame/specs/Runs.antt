@@ -3,7 +3,7 @@
 use mathlib.Core.Path.{_≡_}
 use mathlib.Core.Bool.{Bool, true, false, not, cond, _&&_}
 use mathlib.Core.List.{List, [], _∷_}
-use Prim.Native.Nat.{ℕ, suc, _-_, _*_, _%_, _≤_, _<_}
+use Prim.Native.Nat.{ℕ, zero, suc, _+_, _-_, _*_, _%_, _≤_, _<_}
 use lib.Dec.{eqb}
 use lib.ListN.{length, getD, take, drop}
 use Rattle.groups.specs.Groups.{count, gather}
@@ -25,6 +25,10 @@ beginsRun shape structure cells p = nonzero cells p && not (leftOn shape structu
 -- document 01's runs: the count of runs in the fed lines
 unfoldable pub runs : List ℕ → List ℕ → List Bool → ℕ
 runs shape structure cells = count (beginsRun shape structure cells) (size shape)
+
+-- document 02's nonzero cells so far: how many of the fed cells are nonzero
+unfoldable pub nonzeroCells : List Bool → ℕ
+nonzeroCells cells = count (nonzero cells) (length cells)
 
 -- the run that a nonzero cell is of, by its number from 0 in C order: how many begin before the one that p is of
 unfoldable pub runOf : List ℕ → List ℕ → List Bool → ℕ → ℕ
@@ -50,6 +54,11 @@ none = record { start = 0; end = 0 }
 -- the run covers that column
 abbrev pub Covers : Run → ℕ → Type 0
 Covers r x = (r .start ≤ x) × (x < r .end)
+
+-- the sum of the lengths of the first n runs, where `run` gives each by its number from 0
+unfoldable pub runLengths : (ℕ → Run) → ℕ → ℕ
+runLengths run zero = 0
+runLengths run (suc n) = (run n .end - run n .start) + runLengths run n
 
 -- the maximal stretches from column x on, where l has the flags from x on. The first argument says whether column x - 1 is in
 -- a run, and s is then that run's start

@@ -2,11 +2,14 @@
 // figures of an answer and the constants of the layout.
 ghost use mathlib.Core.Path.{_≡_};
 ghost use Rattle.frame.specs.Plain.{zeroFigures};
+ghost use Rattle.frame.specs.Sums.{plusFigures, FiguresFit};
 
-// The figures that every accepted answer has, and a record keeps: runs and joins so far. Definitions and code have them as this one type.
+// The figures that every accepted answer has, and a record keeps: runs, joins and nonzero cells so far. Definitions and code have them as
+// this one type.
 pub struct Figures {
     pub runs: usize,
     pub joins: usize,
+    pub cells: usize,
 }
 
 impl Figures {
@@ -14,7 +17,23 @@ impl Figures {
     pub fn zero() -> Figures
         ensures { λ r. ⌜ r ≡ zeroFigures ⌝ }
     {
-        Figures { runs: 0, joins: 0 }
+        Figures {
+            runs: 0,
+            joins: 0,
+            cells: 0,
+        }
+    }
+
+    // With those of more lines.
+    pub fn plus(self, more: Figures) -> Figures
+        requires { ⌜ FiguresFit self more ⌝ }
+        ensures { λ r. ⌜ r ≡ plusFigures self more ⌝ }
+    {
+        Figures {
+            runs: self.runs + more.runs,
+            joins: self.joins + more.joins,
+            cells: self.cells + more.cells,
+        }
     }
 }
 

@@ -130,7 +130,11 @@ fn try_all_blocks(
 // What was fed: nothing where the cells or the places do not fit.
 fn fed_by(cause: usize, all: flood::Count) -> flood::Count {
     if (cause == 8) | (cause == 9) {
-        return flood::Count { n: 0, runs: 0 };
+        return flood::Count {
+            n: 0,
+            runs: 0,
+            cells: 0,
+        };
     }
     all
 }
@@ -175,7 +179,11 @@ fn try_lopsided(
 ) {
     let mut laid = [7u32; 3201];
     let marks = [0u32; 1920];
-    let none = flood::Count { n: 0, runs: 0 };
+    let none = flood::Count {
+        n: 0,
+        runs: 0,
+        cells: 0,
+    };
     let right = answers::refused(12);
     let blocks = below(tally::random(state), 4);
     let agreed = try_blocks(

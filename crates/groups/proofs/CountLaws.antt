@@ -47,6 +47,12 @@ module _ (f : ℕ → Bool) where
   unfolding count
   count-none = refl
 
+  -- the first apart from the others
+  pub count-front : (n : ℕ) → count f (suc n) ≡ cond (f 0) 1 0 + count (λ i. f (suc i)) n
+  unfolding count
+  count-front zero = refl
+  count-front (suc n) = omega (arith, count-front n)
+
   count-step : (a : ℕ) → count f a ≤ count f (suc a)
   unfolding count
   count-step a = omega arith

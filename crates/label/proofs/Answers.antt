@@ -30,9 +30,9 @@ numbers-right = refl
 openings-right : map openNumber (O.Accepted ∷ O.Refused C.Memory ∷ []) ≡ 0 ∷ 5 ∷ []
 openings-right = refl
 
--- a feed's lines fed, runs and joins; a reading's n, runs and joins
-cases-right : feedAnswer (F.Accepted 3 (f 5 4)) ∷ feedAnswer (F.Refused C.Lines) ∷ readAnswer (R.Accepted 1 (f 5 4)) ∷ readAnswer
-    (R.Refused C.Kind) ∷ [] ≡ fed 3 (f 5 4) ∷ refused 7 ∷ counted 1 (f 5 4) ∷ refused 10 ∷ []
+-- a feed's lines fed and figures; a reading's n and figures
+cases-right : feedAnswer (F.Accepted 3 (f 5 4 7)) ∷ feedAnswer (F.Refused C.Lines) ∷ readAnswer (R.Accepted 1 (f 5 4 7)) ∷ readAnswer
+    (R.Refused C.Kind) ∷ [] ≡ fed 3 (f 5 4 7) ∷ refused 7 ∷ counted 1 (f 5 4 7) ∷ refused 10 ∷ []
 cases-right = refl
 
 -- ---- document 01's frame 1, fed line by line
@@ -45,15 +45,14 @@ opens-right : begun
         shape = 3 ∷ 3 ∷ 0 ∷ 0 ∷ [];
         structure = cross ++ replicate 72 0;
         fed = 0;
-        figures =
-            record { runs = 0; joins = 0 };
+        figures = f 0 0 0;
       };
       words = 0 ∷ replicate 27 7;
     }
 unfolding begun computed
 opens-right = refl
 
-answers-right : one .said ∷ two .said ∷ three .said ∷ [] ≡ fed 1 (f 2 0) ∷ fed 2 (f 4 2) ∷ fed 3 (f 5 4) ∷ []
+answers-right : one .said ∷ two .said ∷ three .said ∷ [] ≡ fed 1 (f 2 0 2) ∷ fed 2 (f 4 2 4) ∷ fed 3 (f 5 4 7) ∷ []
 unfolding begun one two three computed
 answers-right = refl
 
@@ -65,7 +64,7 @@ words-right = refl
 
 -- after two lines two groups; each run's name becomes its number, and unfed cells get 0
 reading-right : doRead u8 (two .session) (two .words) junk ≡ record {
-  said = counted 2 (f 4 2);
+  said = counted 2 (f 4 2 4);
   words = 0 ∷ 2 ∷ 4 ∷ 7 ∷ 0 ∷ 1 ∷ 0 ∷ 1 ∷ 2 ∷ 3 ∷ 1 ∷ 2 ∷ 0 ∷ 1 ∷ 0 ∷ 1 ∷ 2 ∷ 3 ∷ 1 ∷ 2 ∷ replicate 8 7;
   out = 1 ∷ 0 ∷ 2 ∷ 1 ∷ 0 ∷ 2 ∷ 0 ∷ 0 ∷ 0 ∷ [];
 }
@@ -77,7 +76,7 @@ unfolding begun one two three computed
 sizes-right = refl
 
 whole-right : doFrame u16 frame cross memory (line ++ line ++ whole) junk ≡ record {
-  said = counted 1 (f 5 4);
+  said = counted 1 (f 5 4 7);
   words = 0 ∷ 2 ∷ 4 ∷ 5 ∷ 0 ∷ 1 ∷ 0 ∷ 1 ∷ 2 ∷ 3 ∷ 0 ∷ 1 ∷ 0 ∷ 1 ∷ 0 ∷ 1 ∷ 2 ∷ 3 ∷ 0 ∷ 1 ∷ 0 ∷ 3 ∷ 0 ∷ 1 ∷ replicate 4 7;
   out = 1 ∷ 0 ∷ 1 ∷ 1 ∷ 0 ∷ 1 ∷ 1 ∷ 1 ∷ 1 ∷ [];
 }
@@ -111,9 +110,9 @@ refusals-right = refl
 
 -- ---- soundness
 
--- a frame of one line of three cells, with the left byte zero, fed; it has r runs
-abbrev apart : ℕ → Session
-apart r = record { rank = 1; shape = 3 ∷ 0 ∷ 0 ∷ 0 ∷ []; structure = replicate 81 0; fed = 1; figures = record { runs = r; joins = 0 } }
+-- a frame of one line of three cells, with the left byte zero, fed; it has r runs, of c cells together
+abbrev apart : ℕ → ℕ → Session
+apart r c = record { rank = 1; shape = 3 ∷ 0 ∷ 0 ∷ 0 ∷ []; structure = replicate 81 0; fed = 1; figures = f r 0 c }
 
 -- the record after two lines, with another structure
 abbrev structured : List ℕ → Session
@@ -123,19 +122,15 @@ structured bytes =
       shape = 3 ∷ 3 ∷ 0 ∷ 0 ∷ [];
       structure = bytes ++ replicate 72 0;
       fed = 2;
-      figures = record { runs = 4; joins = 2 };
+      figures = f 4 2 4;
     }
 
--- each breaks a clause of document 01's "Unsound, exactly", in its order, and no other unless it is said
+-- each breaks a clause of document 01's "Unsound, exactly" or of document 02, in their order, and no other unless it is said
 unsound : List (Session × List ℕ)
 unsound =
     -- rank 0, rank 5
     (blank, replicate 28 0)
-    ∷ (
-      record { rank = 5; shape = replicate 4 1; structure = replicate 81 0; fed = 0; figures = record { runs = 0; joins = 0 } },
-      replicate
-          28 0,
-    )
+    ∷ (record { rank = 5; shape = replicate 4 1; structure = replicate 81 0; fed = 0; figures = f 0 0 0 }, replicate 28 0)
     -- a leading dimension is 0
     ∷ (openRecord (0 ∷ 3 ∷ []) cross, replicate 28 0)
     -- w and L at their limits, L × w one above
@@ -147,31 +142,37 @@ unsound =
     -- 27 words
     ∷ (two .session, take 27 (two .words))
     -- four lines fed
-    ∷ (held 4 0 0, replicate 28 0)
+    ∷ (held 4 0 0 0, replicate 28 0)
     -- word 0 is 1
     ∷ (two .session, put 0 1)
     -- line 2 starts below line 1
-    ∷ (held 2 1 0, put 2 1)
+    ∷ (held 2 1 0 1, put 2 1)
     -- word 2 is not the count of runs
     ∷ (two .session, put 2 3)
-    ∷ (held 2 3 1, two .words)
+    ∷ (held 2 3 1 3, two .words)
     -- three runs in a line: that many cannot stand in order either
     ∷ (two .session, put 1 3)
     -- run 1 is [2, 2); it is [2, 4)
-    ∷ (two .session, put 9 2)
-    ∷ (two .session, put 9 4)
+    ∷ (held 2 4 2 3, put 9 2)
+    ∷ (held 2 4 2 5, put 9 4)
     -- runs 0 and 1 are [0, 2) and [1, 3); [2, 3) and [0, 1); [0, 2) and [2, 3)
-    ∷ (two .session, set (put 5 2) 8 1)
+    ∷ (held 2 4 2 6, set (put 5 2) 8 1)
     ∷ (two .session, set (set (set (put 4 2) 5 3) 8 0) 9 1)
-    ∷ (two .session, put 5 2)
+    ∷ (held 2 4 2 5, put 5 2)
     -- with the left byte zero they are [0, 1) and [1, 3); [0, 1) and [0, 1)
-    ∷ (apart 2, 0 ∷ 2 ∷ 0 ∷ 1 ∷ 0 ∷ 7 ∷ 1 ∷ 3 ∷ 1 ∷ 7 ∷ replicate 4 7)
-    ∷ (apart 2, 0 ∷ 2 ∷ 0 ∷ 1 ∷ 0 ∷ 7 ∷ 0 ∷ 1 ∷ 1 ∷ 7 ∷ replicate 4 7)
+    ∷ (apart 2 3, 0 ∷ 2 ∷ 0 ∷ 1 ∷ 0 ∷ 7 ∷ 1 ∷ 3 ∷ 1 ∷ 7 ∷ replicate 4 7)
+    ∷ (apart 2 2, 0 ∷ 2 ∷ 0 ∷ 1 ∷ 0 ∷ 7 ∷ 0 ∷ 1 ∷ 1 ∷ 7 ∷ replicate 4 7)
     -- run 0 has parent 1
-    ∷ (held 2 4 3, put 6 1)
+    ∷ (held 2 4 3 4, put 6 1)
     -- joins are one too many, one too few
-    ∷ (held 2 4 3, two .words)
-    ∷ (held 2 4 1, two .words)
+    ∷ (held 2 4 3 4, two .words)
+    ∷ (held 2 4 1 4, two .words)
+    -- document 02's: the total is one too many, one too few, 2^32 too many; a run is longer than the total says; no line is fed
+    ∷ (held 2 4 2 5, two .words)
+    ∷ (held 2 4 2 3, two .words)
+    ∷ (held 2 4 2 4294967300, two .words)
+    ∷ (held 3 5 4 7, set (three .words) 21 2)
+    ∷ (held 0 0 0 1, begun .words)
     ∷ []
 
 -- sound records: those after an opening and after feeds, and others
@@ -194,24 +195,26 @@ accepted =
         shape = 3 ∷ 3 ∷ 9 ∷ 9 ∷ [];
         structure = cross ++ replicate 72 9;
         fed = 2;
-        figures = record { runs = 4; joins = 2 };
+        figures = f 4 2 4;
       },
       two .words,
     )
     -- another nonzero byte on one side
     ∷ (structured (set cross 7 255), two .words)
     -- runs 0 and 1 in one group, which no chain joins; and longer ways to a root
-    ∷ (held 2 4 3, put 10 0)
-    ∷ (held 2 4 3, set (put 10 0) 18 2)
+    ∷ (held 2 4 3 4, put 10 0)
+    ∷ (held 2 4 3 4, set (put 10 0) 18 2)
     -- with the left byte zero, three runs that touch
-    ∷ (apart 3, 0 ∷ 3 ∷ 0 ∷ 1 ∷ 0 ∷ 7 ∷ 1 ∷ 2 ∷ 1 ∷ 7 ∷ 2 ∷ 3 ∷ 2 ∷ 7 ∷ [])
+    ∷ (apart 3 3, 0 ∷ 3 ∷ 0 ∷ 1 ∷ 0 ∷ 7 ∷ 1 ∷ 2 ∷ 1 ∷ 7 ∷ 2 ∷ 3 ∷ 2 ∷ 7 ∷ [])
+    -- a run of another length, with the total that is then right
+    ∷ (held 3 5 4 6, set (three .words) 21 2)
     ∷ []
 
-unsound-right : map (λ x. sound (x .0) (x .1)) unsound ≡ replicate 24 false
-unfolding unsound begun one two computed
+unsound-right : map (λ x. sound (x .0) (x .1)) unsound ≡ replicate 29 false
+unfolding unsound begun one two three computed
 unsound-right = refl
 
-accepted-right : map (λ x. sound (x .0) (x .1)) accepted ≡ replicate 13 true
+accepted-right : map (λ x. sound (x .0) (x .1)) accepted ≡ replicate 14 true
 unfolding accepted begun one two three computed
 accepted-right = refl
 
@@ -219,12 +222,12 @@ accepted-right = refl
 
 -- runs 0 and 1 in one group, where the chain rule makes two: a line that joins neither leaves it one
 other : FeedResult
-other = doFeed (held 2 4 3) (put 10 0) 1 line
+other = doFeed (held 2 4 3 4) (put 10 0) 1 line
 
 otherRead : ReadResult ℕ
 otherRead = doRead u8 (other .session) (other .words) junk
 
-other-right : (other .said ∷ otherRead .said ∷ [] ≡ fed 3 (f 6 5) ∷ counted 1 (f 6 5) ∷ [])
+other-right : (other .said ∷ otherRead .said ∷ [] ≡ fed 3 (f 6 5 6) ∷ counted 1 (f 6 5 6) ∷ [])
     × (otherRead .out ≡ 1 ∷ 0 ∷ 1 ∷ 1 ∷ 0 ∷ 1 ∷ 1 ∷ 0 ∷ 1 ∷ [])
 unfolding other otherRead begun one two computed
 other-right = (refl, refl)
@@ -262,10 +265,18 @@ show d = (d .said, d .words, doRead u32 (d .session) (d .words) (replicate 8 5) 
 
 -- one group, two groups
 abbrev byOnes : Shown
-byOnes = (fed 4 (f 3 2), 0 ∷ 1 ∷ 2 ∷ 3 ∷ 3 ∷ 0 ∷ 1 ∷ 0 ∷ 7 ∷ 1 ∷ 2 ∷ 0 ∷ 7 ∷ 0 ∷ 2 ∷ 0 ∷ replicate 5 7, 1 ∷ 0 ∷ 0 ∷ 1 ∷ 1 ∷ 1 ∷ 0 ∷ 0 ∷ [])
+byOnes = (
+  fed 4 (f 3 2 4),
+  0 ∷ 1 ∷ 2 ∷ 3 ∷ 3 ∷ 0 ∷ 1 ∷ 0 ∷ 7 ∷ 1 ∷ 2 ∷ 0 ∷ 7 ∷ 0 ∷ 2 ∷ 0 ∷ replicate 5 7,
+  1 ∷ 0 ∷ 0 ∷ 1 ∷ 1 ∷ 1 ∷ 0 ∷ 0 ∷ [],
+)
 
 abbrev byFaces : Shown
-byFaces = (fed 4 (f 3 1), 0 ∷ 1 ∷ 2 ∷ 3 ∷ 3 ∷ 0 ∷ 1 ∷ 0 ∷ 7 ∷ 1 ∷ 2 ∷ 1 ∷ 7 ∷ 0 ∷ 2 ∷ 0 ∷ replicate 5 7, 1 ∷ 0 ∷ 0 ∷ 2 ∷ 1 ∷ 1 ∷ 0 ∷ 0 ∷ [])
+byFaces = (
+  fed 4 (f 3 1 4),
+  0 ∷ 1 ∷ 2 ∷ 3 ∷ 3 ∷ 0 ∷ 1 ∷ 0 ∷ 7 ∷ 1 ∷ 2 ∷ 1 ∷ 7 ∷ 0 ∷ 2 ∷ 0 ∷ replicate 5 7,
+  1 ∷ 0 ∷ 0 ∷ 2 ∷ 1 ∷ 1 ∷ 0 ∷ 0 ∷ [],
+)
 
 blocks-right : map show (inBlocks ones ∷ atOnce ones ∷ inBlocks faces ∷ atOnce faces ∷ []) ≡ byOnes ∷ byOnes ∷ byFaces ∷ byFaces ∷ []
 unfolding inBlocks atOnce show computed

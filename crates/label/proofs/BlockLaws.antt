@@ -13,14 +13,16 @@ use lib.ListN.{length, length-append}
 use Rattle.groups.specs.Groups.{Edge, rep, joins, visit}
 use Rattle.groups.proofs.VisitLaws.{visit-append, rep-over, joins-over}
 use Rattle.frame.specs.Shape.{width, leading}
-use Rattle.frame.specs.Runs.{runsBefore, frameRun}
+use Rattle.frame.specs.Runs.{nonzeroCells, runsBefore, frameRun}
 use Rattle.frame.specs.Touches.{frameTouches}
 use Rattle.frame.specs.Memory.{wordsNeeded}
 use Rattle.frame.specs.Plain.{Answer}
 use Rattle.frame.specs.Words.{endPlace, parentOf}
 use Rattle.frame.specs.Lists.{sum}
 use Rattle.frame.proofs.TouchLaws.{touches-split}
+use Rattle.frame.proofs.CellLaws.{cells-append}
 use Rattle.frame.proofs.GrowLaws.{touches-stay}
+use Rattle.frame.proofs.PlainLaws.{figures-same}
 use Rattle.forest.proofs.ForestLaws.{grouping-rep-all, grouping-joins}
 use Rattle.label.specs.declared.Session.{Session}
 use Rattle.label.specs.Record.{shapeOf, structureOf, linesOf, withFigures}
@@ -150,13 +152,17 @@ module _ (s : Session) (ws : List ℕ) (S : Sound s ws) (k : ℕ) (more : List B
       let o = joins-over (feedTouches s₁ ws₁ j rest) (groupingOf s₁ ws₁) (feedEdges s ws k more) between in
       omega (arith, ap joins second, ap joins edges-both, joins-between)
 
+  cells-both : feedRecord s ws k more .figures .cells + nonzeroCells rest ≡ s .figures .cells + nonzeroCells (more ++ rest)
+  unfolding feedRecord
+  cells-both = omega (arith, cells-append more rest)
+
   -- ---- the record
 
   pub record-both : feedRecord (feedRecord s ws k more) ws₁ j rest ≡ feedRecord s ws (k + j) (more ++ rest)
   record-both = first ∙ ap₂ (withFigures s) lines-are figures-both ∙ last
     where
       figures-both : figuresAfter s₁ ws₁ j rest ≡ figuresAfter s ws (k + j) (more ++ rest)
-      figures-both = ap₂ (λ (r : ℕ) (j : ℕ). record { runs = r; joins = j }) runs-both joins-both
+      figures-both = figures-same runs-both joins-both cells-both
 
       first : feedRecord s₁ ws₁ j rest ≡ withFigures s (s .fed + k + j) (figuresAfter s₁ ws₁ j rest)
       first = unfold feedRecord in refl

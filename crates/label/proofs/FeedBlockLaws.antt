@@ -4,25 +4,28 @@ use mathlib.Core.Path.{_≡_, refl, sym, ap, ap₂, _∙_, subst}
 use mathlib.Core.Bool.{Bool, true, false, not, cond}
 use mathlib.Core.List.{List, _++_}
 use Prim.Native.Nat.{ℕ, suc, _+_, _-_, _*_, _^_, _≤_, _<_}
-use native.Mathlib.Nat.{le-refl, mul-assoc}
+use native.Mathlib.Nat.{le-refl, add-mul, mul-assoc, mul-le-mul-right}
 use native.Mathlib.Omega.{arith}
 use borrow.Author.Tests.{leb-true, leb-false, ltb-true, ltb-false}
 use lib.Dec.{ltb, leb}
 use lib.ListN.{length, getD}
-use lib.Seq.{ext-getD}
+use lib.Seq.{take-all, ext-getD}
 use Rattle.groups.specs.Groups.{Edge, rep, joins, visit, gather}
 use Rattle.groups.proofs.CountLaws.{count-most}
 use Rattle.frame.specs.Shape.{size, width, leading}
 use Rattle.frame.specs.Structure.{leftOn}
-use Rattle.frame.specs.Runs.{runs, beginsRun, Run, none, frameRuns, allRuns, runsBefore, frameRun}
+use Rattle.frame.specs.Runs.{runs, nonzeroCells, beginsRun, Run, none, frameRuns, allRuns, runsBefore, frameRun}
 use Rattle.frame.specs.Touches.{touches}
 use Rattle.frame.specs.Memory.{stride, perLine, wordsNeeded}
+use Rattle.frame.specs.declared.Figures.{Figures}
+use Rattle.frame.specs.Sums.{plusFigures, FiguresFit}
 use Rattle.frame.specs.Plain.{Answer, fed, unless}
 use Rattle.frame.specs.Words.{startPlace, endPlace, parentPlace, lineStart, parentOf, storedRun, NoParent}
-use Rattle.frame.proofs.ShapeLaws.{Fits, length-leading}
+use Rattle.frame.proofs.ShapeLaws.{Fits, length-leading, size-lines}
 use Rattle.frame.proofs.EntryLaws.{length-entries, getD-entries}
 use Rattle.frame.proofs.FrameRunLaws.{start-le, run-first, runs-all}
-use Rattle.frame.proofs.PlainLaws.{unless-none}
+use Rattle.frame.proofs.CellLaws.{cells-most}
+use Rattle.frame.proofs.PlainLaws.{figures-same, unless-none}
 use Rattle.frame.proofs.TouchLaws.{touches-same, touches-bytes}
 use Rattle.forest.specs.Forest.{own, nonRoots, grouping}
 use Rattle.forest.proofs.ForestLaws.{grouping-joins}
@@ -31,7 +34,8 @@ use Rattle.sweep.specs.Sweeps.{InOrder}
 use Rattle.geo.specs.Geometry.{leadingOf, ThreeDims}
 use Rattle.geo.specs.declared.Geo.{Geo}
 use Rattle.geo.specs.Geometry.{GeoOf}
-use Rattle.block.specs.Blocks.{linesRuns, BlockRoom, Block, BlockReady, touchesFrom, BlockUnited, RoomFor, Extracts}
+use Rattle.runs.specs.declared.Counts.{Counts}
+use Rattle.block.specs.Blocks.{linesRuns, linesCells, BlockRoom, Block, BlockReady, touchesFrom, BlockUnited, RoomFor, Extracts}
 use Rattle.causes.specs.declared.Checked.{Checked}
 use Rattle.causes.specs.Cases.{checkNumber}
 use Rattle.causes.proofs.CaseLaws.{passed-none}
@@ -50,7 +54,7 @@ use Rattle.label.proofs.StoredSound.{stores-ordered}
 use Rattle.label.proofs.SoundCells.{sound-stores}
 use Rattle.label.proofs.FeedWordLaws.{Aside, Wrote, wrote-others}
 use Rattle.label.proofs.FeedLaws.{fits-all, runs-after, few-after, room, room-lines, wrote-stores, touches-after, joins-after}
-use Rattle.label.proofs.FitLaws.{limits}
+use Rattle.label.proofs.FitLaws.{limits, total-few}
 
 module _ (s : Session) (ws : List ℕ) (k : ℕ) (more : List Bool) (G : FeedAccepted s ws k more) where
   -- the record's shape, structure, L, w, and whether its left byte is nonzero; the cells that the words hold
@@ -125,9 +129,14 @@ module _ (s : Session) (ws : List ℕ) (k : ℕ) (more : List Bool) (G : FeedAcc
     small = rw after-is (omega (arith, few));
   }
 
-  module _ (ws₁ : List ℕ) (n : ℕ) (B : Block left w L (s .fed) (s .figures .runs) k more ws ws₁ n) where
-    pub extracted-count : n ≡ runsAfter s more
-    extracted-count = B .counted ∙ after-is
+  module _ (ws₁ : List ℕ) (c : Counts) (B : Block left w L (s .fed) (s .figures .runs) k more ws ws₁ c) where
+    pub extracted-count : s .figures .runs + c .runs ≡ runsAfter s more
+    extracted-count = ap (λ (n : ℕ). s .figures .runs + n) (B .counted) ∙ after-is
+
+    -- the lines are all there is
+    pub extracted-cells : c .cells ≡ nonzeroCells more
+    unfolding linesCells
+    extracted-cells = B .total ∙ ap nonzeroCells (take-all (k * w) more (rw (G .whole) (le-refl (k * w))))
 
     -- a word that is no new line start, and of no new run the start or the end
     stands : (j : ℕ) → Aside s k more j → getD ws₁ j 0 ≡ getD ws j 0
@@ -325,8 +334,9 @@ module _ (s : Session) (ws : List ℕ) (k : ℕ) (more : List Bool) (G : FeedAcc
   pub feed-room : RoomFor g (s .fed) (s .figures .runs) k more ws
   feed-room = rw (geo-left s ws g K, geo-width s ws g K, geo-lines s ws g K) (block-room s ws k more G)
 
-  pub feed-extracted : (ws₁ : List ℕ) (n : ℕ) → Extracts g (s .fed) (s .figures .runs) k more ws ws₁ n → FeedExtracted s ws k more g ws₁ n
-  feed-extracted ws₁ n B = record {
+  pub feed-extracted : (ws₁ : List ℕ) (c : Counts) → Extracts g (s .fed) (s .figures .runs) k more ws ws₁ c
+      → FeedExtracted s ws k more g ws₁ c
+  feed-extracted ws₁ c B = record {
     given = G;
     geometry = K;
     block = rw (← geo-left s ws g K, ← geo-width s ws g K, ← geo-lines s ws g K) B;
@@ -341,19 +351,19 @@ module _ (s : Session) (ws : List ℕ) (k : ℕ) (more : List Bool) {r : Checked
   pub passed-room : RoomFor (r .geo) (s .fed) (s .figures .runs) k more ws
   passed-room = feed-room s ws k more given (r .geo) (passed-geometry s F is left)
 
-  extracted : {ws₁ : List ℕ} {n : ℕ} → Extracts (r .geo) (s .fed) (s .figures .runs) k more ws ws₁ n
-      → FeedExtracted s ws k more (r .geo) ws₁ n
-  extracted {ws₁} {n} B = feed-extracted s ws k more given (r .geo) (passed-geometry s F is left) ws₁ n B
+  extracted : {ws₁ : List ℕ} {c : Counts} → Extracts (r .geo) (s .fed) (s .figures .runs) k more ws ws₁ c
+      → FeedExtracted s ws k more (r .geo) ws₁ c
+  extracted {ws₁} {c} B = feed-extracted s ws k more given (r .geo) (passed-geometry s F is left) ws₁ c B
 
 module _ {s : Session} {ws : List ℕ} {k : ℕ} {more : List Bool} {r : Checked} (F : RecordFound s (feedCauseOf s ws k more) r) {t : Bool}
-    (is : t ≡ ltb 0 (checkNumber (r .check))) (left : t ≡ false) {ws₁ : List ℕ} {n : ℕ}
-    (B : Extracts (r .geo) (s .fed) (s .figures .runs) k more ws ws₁ n) where
-  pub passed-extracted : SomeExtracted s (r .geo) k ws₁ n
+    (is : t ≡ ltb 0 (checkNumber (r .check))) (left : t ≡ false) {ws₁ : List ℕ} {c : Counts}
+    (B : Extracts (r .geo) (s .fed) (s .figures .runs) k more ws ws₁ c) where
+  pub passed-extracted : SomeExtracted s (r .geo) k ws₁ c
   passed-extracted = record { words = ws; cells = more; extracted = extracted s ws k more F is left B }
 
   -- the union's promise is for whatever feed was extracted
   pub passed-feed : {s₁ : Session} {ws₂ : List ℕ}
-      → ((us : List ℕ) (flags : List Bool) → FeedExtracted s us k flags (r .geo) ws₁ n → FeedDone s us k flags s₁ ws₂)
+      → ((us : List ℕ) (flags : List Bool) → FeedExtracted s us k flags (r .geo) ws₁ c → FeedDone s us k flags s₁ ws₂)
       → {s₂ : Session} {a : Answer} → (s₂ ≡ s₁) × (a ≡ unless (checkNumber (r .check)) (fed (s₁ .fed) (s₁ .figures)))
       → FeedPromise s ws k more a s₂ ws₂
   passed-feed {s₁} {ws₂} U A =
@@ -361,28 +371,46 @@ module _ {s : Session} {ws : List ℕ} {k : ℕ} {more : List Bool} {r : Checked
       let said = A .1 ∙ unless-none _ _ (passed-none _ _ is left) in
       done-promise s ws k more (given s ws k more F is left) s₁ ws₂ done _ said _ (A .0)
 
-module _ (s : Session) (ws : List ℕ) (k : ℕ) (more : List Bool) (g : Geo) (ws₁ : List ℕ) (n : ℕ) (X : FeedExtracted s ws k more g ws₁ n)
-    (long : 3 ^ s .rank ≤ length (s .structure)) where
+module _ (s : Session) (ws : List ℕ) (k : ℕ) (more : List Bool) (g : Geo) (ws₁ : List ℕ) (c : Counts)
+    (X : FeedExtracted s ws k more g ws₁ c) (long : 3 ^ s .rank ≤ length (s .structure)) where
   abbrev K : GeoOf (s .rank) (s .shape) (s .structure) g
   K = X .geometry
 
   pub feed-ready : BlockReady (g .leads) (g .dims) (g .lines) (s .structure) ws₁ (s .fed) k
-  feed-ready = rw (geo-lines s ws g K) (block-ready s ws k more (X .given) ws₁ n (X .block) g K long)
+  feed-ready = rw (geo-lines s ws g K) (block-ready s ws k more (X .given) ws₁ c (X .block) g K long)
+
+  runs-fit : s .figures .runs + c .runs < 4294967293
+  runs-fit = omega (arith, extracted-count s ws k more (X .given) ws₁ c (X .block), few s ws k more (X .given))
+
+  cells-fit : s .figures .cells + c .cells < 4294967293
+  cells-fit =
+      let G = X .given in
+      let S = G .is-sound in
+      omega (
+        arith,
+        extracted-cells s ws k more G ws₁ c (X .block),
+        cells-most more,
+        G .whole,
+        total-few s ws S,
+        add-mul (s .fed) k (width (shapeOf s)),
+        mul-le-mul-right (width (shapeOf s)) (below s ws k more G),
+        size-lines (shapeOf s),
+        limits s ws S .2,
+      )
 
   module _ (ws₂ : List ℕ) (t : ℕ) (U : BlockUnited (g .leads) (g .dims) (g .lines) (s .structure) ws₁ ws₂ (s .fed) k t) where
     united : BlockUnited (g .leads) (g .dims) (linesOf s) (s .structure) ws₁ ws₂ (s .fed) k t
     united = rw (← geo-lines s ws g K) U
 
     W : FeedWords s ws k more ws₂
-    W = block-words s ws k more (X .given) ws₁ n (X .block) g K long ws₂ t united
+    W = block-words s ws k more (X .given) ws₁ c (X .block) g K long ws₂ t united
 
     joins-are : s .figures .joins + t ≡ joins (feedEdges s ws k more)
-    joins-are = block-joins s ws k more (X .given) ws₁ n (X .block) g K long ws₂ t united
+    joins-are = block-joins s ws k more (X .given) ws₁ c (X .block) g K long ws₂ t united
 
-    -- the joins are a number of 64 bits, as the lines are
-    pub feed-joins-fit : s .figures .joins + t < 4294967293
+    joins-fit : s .figures .joins + t < 4294967293
     unfolding nonRoots
-    feed-joins-fit =
+    joins-fit =
         let G = X .given in
         let S = G .is-sound in
         let p = parentOf (linesOf s) ws₂ in
@@ -390,10 +418,20 @@ module _ (s : Session) (ws : List ℕ) (k : ℕ) (more : List Bool) (g : Geo) (w
         (S .words .parents) in
         omega (arith, joins-are, after, count-most (λ r. not (own p r)) (runsAfter s more), few s ws k more G)
 
-    pub feed-done : FeedDone s ws k more (withFigures s (s .fed + k) (record { runs = n; joins = s .figures .joins + t })) ws₂
+    -- the figures are numbers of 64 bits, as the lines are
+    pub feed-figures-fit : FiguresFit (s .figures) (record { runs = c .runs; joins = t; cells = c .cells })
+    feed-figures-fit = record {
+      runs-fit = omega (arith, runs-fit);
+      joins-fit = omega (arith, joins-fit);
+      cells-fit = omega (arith, cells-fit);
+    }
+
+    pub feed-done : {figures : Figures} → figures ≡ plusFigures (s .figures) (record { runs = c .runs; joins = t; cells = c .cells })
+        → FeedDone s ws k more (withFigures s (s .fed + k) figures) ws₂
     unfolding feedRecord
-    feed-done = record { session = ap (withFigures s (s .fed + k)) figures-are; words = W }
-      where
-        figures-are : record { runs = n; joins = s .figures .joins + t } ≡ figuresAfter s ws k more
-        figures-are =
-            ap₂ (λ (r : ℕ) (j : ℕ). record { runs = r; joins = j }) (extracted-count s ws k more (X .given) ws₁ n (X .block)) joins-are
+    feed-done {figures} is = record {
+      session = ap (withFigures s (s .fed + k))
+          (is ∙ figures-same (extracted-count s ws k more (X .given) ws₁ c (X .block)) joins-are
+          (ap (λ (n : ℕ). s .figures .cells + n) (extracted-cells s ws k more (X .given) ws₁ c (X .block))));
+      words = W;
+    }

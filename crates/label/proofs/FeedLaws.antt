@@ -22,6 +22,7 @@ use Rattle.frame.specs.Words.{namePlace, lineStart, parentOf, storedRun}
 use Rattle.frame.proofs.ShapeLaws.{Fits}
 use Rattle.frame.proofs.FrameRunLaws.{start-le, starts-few, runs-all}
 use Rattle.frame.proofs.TouchLaws.{touches-below, touches-same}
+use Rattle.frame.proofs.CellLaws.{cells-append}
 use Rattle.frame.proofs.GrowLaws.{starts-stay, run-stays, starts-new, run-new}
 use Rattle.forest.specs.Forest.{nonRoots}
 use Rattle.forest.proofs.ForestLaws.{roots-others, roots-groups, grouping-ends}
@@ -31,7 +32,7 @@ use Rattle.label.specs.Record.{shapeOf, structureOf, linesOf}
 use Rattle.label.specs.Sound.{Sound}
 use Rattle.label.specs.Held.{groupingOf}
 use Rattle.label.specs.Feeding.{runsAfter, startAfter, runAfter, feedTouches, feedEdges, feedRecord, FeedWords}
-use Rattle.label.proofs.StoreLaws.{Stores}
+use Rattle.label.proofs.StoreLaws.{Stores, stores-total}
 use Rattle.label.proofs.StoredSound.{stores-sound}
 use Rattle.label.proofs.FeedWordLaws.{Wrote, wrote}
 
@@ -190,3 +191,4 @@ module _ (s : Session) (ws : List ℕ) (cells : List Bool) (H : Stores s ws cell
         sound-after S =
             stores-sound (feedRecord s ws k more) ws′ (cells ++ more) stores-after
             (shape-stays _ _ _ _ (S .shape) (sym (W .long)) (stores-after .fits .below)) (W .parents) joins-after
+            (omega (arith, S .words .total, stores-total s ws cells H, cells-append cells more))

@@ -3,17 +3,19 @@
 use mathlib.Core.Path.{_≡_, refl, sym, ap, ap₂, _∙_}
 use mathlib.Core.Bool.{Bool}
 use mathlib.Core.List.{List}
-use Prim.Native.Nat.{ℕ, zero, suc}
-use native.Mathlib.Nat.{add-zero}
+use Prim.Native.Nat.{ℕ, zero, suc, _+_}
+use native.Mathlib.Nat.{add-zero, zero-mul}
 use native.Mathlib.Omega.{arith}
 use Rattle.groups.specs.Groups.{joins, gather, visit}
-use Rattle.frame.specs.Runs.{runs}
+use Rattle.frame.specs.Shape.{width}
+use Rattle.frame.specs.Runs.{runs, nonzeroCells}
 use Rattle.frame.specs.Touches.{touches}
 use Rattle.frame.specs.Plain.{Answer}
 use Rattle.frame.specs.Words.{parentOf}
 use Rattle.frame.specs.Lists.{setAll}
 use Rattle.frame.proofs.FrameRunLaws.{start-zero, runs-all}
-use Rattle.frame.proofs.PlainLaws.{kept-old}
+use Rattle.frame.proofs.CellLaws.{cells-most}
+use Rattle.frame.proofs.PlainLaws.{figures-same, kept-old}
 use Rattle.forest.proofs.ForestLaws.{grouping-rep, grouping-joins}
 use Rattle.label.specs.declared.Session.{Session}
 use Rattle.label.specs.Record.{shapeOf, structureOf, linesOf, withFigures}
@@ -57,8 +59,11 @@ module _ (s : Session) (ws : List ℕ) (cells : List Bool) (G : FeedAccepted s w
   same-joins =
       ap joins same-edges ∙ grouping-joins (parentOf (linesOf s) ws) (s .figures .runs) (S .words .parents) ∙ sym (S .words .join-count)
 
+  same-cells : s .figures .cells + nonzeroCells cells ≡ s .figures .cells
+  same-cells = omega (arith, cells-most cells, G .whole, zero-mul (width (shapeOf s)))
+
   same-figures : figuresAfter s ws 0 cells ≡ s .figures
-  same-figures = ap₂ (λ (r : ℕ) (j : ℕ). record { runs = r; joins = j }) same-runs same-joins
+  same-figures = figures-same same-runs same-joins same-cells
 
   pub record-none : feedRecord s ws 0 cells ≡ s
   unfolding feedRecord

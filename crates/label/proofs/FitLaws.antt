@@ -3,7 +3,7 @@
 use mathlib.Core.Path.{_≡_, refl, sym, _∙_, subst}
 use mathlib.Core.Bool.{Bool, true, false, true≢false}
 use mathlib.Core.List.{List, [], _∷_}
-use Prim.Native.Nat.{ℕ, zero, suc, _+_, _≤_, _<_}
+use Prim.Native.Nat.{ℕ, zero, suc, _+_, _*_, _≤_, _<_}
 use native.Mathlib.Nat.{le-refl}
 use native.Mathlib.Omega.{arith}
 use borrow.Author.Tests.{eqb-true, eq-eqb, leb-true}
@@ -20,6 +20,7 @@ use Rattle.frame.specs.Words.{parentPlace, lineStart, parentOf, NoParent}
 use Rattle.frame.specs.Lists.{setAll}
 use Rattle.frame.proofs.ChainRuleLaws.{any-found, any-at}
 use Rattle.frame.proofs.LineLaws.{Within}
+use Rattle.frame.proofs.CellLaws.{cells-most}
 use Rattle.frame.proofs.CauseLaws.{read-accepted, sizes-accepted}
 use Rattle.forest.specs.Forest.{rootOf, numberIn}
 use Rattle.forest.proofs.ForestLaws.{roots-others, root-le}
@@ -34,8 +35,9 @@ use Rattle.label.specs.Reading.{withNames, readCauseOf, ReadPromise, siz
 use Rattle.label.specs.Steps.{FeedAccepted}
 use Rattle.label.proofs.SoundLaws.{sound-right, starts-rise, n-joins}
 use Rattle.label.proofs.AcceptedLaws.{cause-accepted}
+use Rattle.label.proofs.HoldLaws.{length-held}
 use Rattle.label.proofs.StoreLaws.{Stores}
-use Rattle.label.proofs.SoundCells.{sound-stores, runs-held}
+use Rattle.label.proofs.SoundCells.{sound-stores, runs-held, cells-held}
 use Rattle.label.proofs.AnyOrigin.{any-numbered}
 use Rattle.label.proofs.FeedWordLaws.{Wrote}
 use Rattle.label.proofs.FeedLaws.{written, sound-after}
@@ -80,6 +82,10 @@ module _ (s : Session) (ws : List ℕ) (S : Sound s ws) where
   pub runs-fit : s .figures .runs < 4294967293
   unfolding runs
   runs-fit = omega (arith, runs-held s ws S, count-most (beginsRun dims (structureOf s) (cellsOf s ws)) (size dims), limits .2)
+
+  -- nor more nonzero cells
+  pub total-few : s .figures .cells ≤ s .fed * width dims
+  total-few = omega (arith, cells-held s ws S, cells-most (cellsOf s ws), length-held s ws)
 
   pub joins-fit : s .figures .joins ≤ s .figures .runs
   joins-fit = omega (arith, n-joins s ws S)

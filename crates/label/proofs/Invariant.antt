@@ -1,6 +1,6 @@
 -- What holds of a record and its words after every list of calls from an accepted opening, and what follows from it.
 -- Assumes nothing.
-use mathlib.Core.Path.{_≡_, refl, sym, ap, ap₂, _∙_}
+use mathlib.Core.Path.{_≡_, refl, sym, ap, _∙_}
 use mathlib.Core.Bool.{Bool, true, false, cond}
 use mathlib.Core.List.{List, [], map}
 use Prim.Native.Nat.{ℕ, _-_, _<_}
@@ -19,6 +19,7 @@ use Rattle.frame.specs.Plain.{State, groupsOf, figures}
 use Rattle.frame.specs.Words.{parentOf}
 use Rattle.frame.proofs.RunGroupLaws.{groups-visited, number-visited}
 use Rattle.frame.proofs.ListLaws.{same-map, map-twice}
+use Rattle.frame.proofs.PlainLaws.{figures-same}
 use Rattle.forest.specs.Forest.{rootOf, numberIn}
 use Rattle.forest.proofs.ForestLaws.{roots-groups, number-groups}
 use Rattle.label.specs.declared.Session.{Session}
@@ -27,7 +28,7 @@ use Rattle.label.specs.Sound.{Sound}
 use Rattle.label.specs.Held.{cellsOf, holderOf, rootCount, numberAt, sizeAt, numbersHeld, sizesHeld}
 use Rattle.label.proofs.SoundLaws.{n-joins}
 use Rattle.label.proofs.StoreLaws.{Stores, stores-below, stores-holder}
-use Rattle.label.proofs.SoundCells.{sound-stores, runs-held}
+use Rattle.label.proofs.SoundCells.{sound-stores, runs-held, cells-held}
 
 -- the plain session's state that a record and its words hold
 abbrev pub stateOf : Session → List ℕ → State
@@ -70,7 +71,7 @@ module _ (s : Session) (ws : List ℕ) (I : Inv s ws) where
       ∙ ap (groups (λ r. true) (visited s ws)) inv-runs
       ∙ groups-visited shape structure cells (s .fed) (H .fits)
 
-  -- and so are runs and joins
+  -- and so are the figures
   pub inv-figures : s .figures ≡ figures shape (stateOf s ws)
   unfolding figures
   inv-figures =
@@ -80,7 +81,7 @@ module _ (s : Session) (ws : List ℕ) (I : Inv s ws) where
         inv-n,
         inv-runs,
       ) in
-      ap₂ (λ (r : ℕ) (j : ℕ). record { runs = r; joins = j }) inv-runs j
+      figures-same inv-runs j (cells-held s ws (I .is-sound))
 
   -- each cell's number
   pub inv-number : (p : ℕ) → p < size shape → numberAt s ws p ≡ label shape structure cells p

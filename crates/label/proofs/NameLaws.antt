@@ -16,7 +16,7 @@ use Rattle.label.specs.Record.{linesOf}
 use Rattle.label.specs.Sound.{Sound}
 use Rattle.label.specs.Held.{cellsOf}
 use Rattle.label.specs.Reading.{withNames}
-use Rattle.label.proofs.StoreLaws.{Stores, stores-cells}
+use Rattle.label.proofs.StoreLaws.{Stores, stores-cells, stores-total}
 use Rattle.label.proofs.StoredSound.{stores-sound}
 
 module _ (s : Session) (ws : List ℕ) where
@@ -60,3 +60,4 @@ module _ (s : Session) (ws : List ℕ) where
         stores-sound s (withNames s ws) cells stores-named (shape-stays _ _ _ _ (S .shape) (sym length-names) (S .shape .within))
         (subst (λ (p : ℕ → ℕ). (r : ℕ) → r < s .figures .runs → p r ≤ r) (sym parents-stand) (S .words .parents))
         (S .words .join-count ∙ ap (λ (p : ℕ → ℕ). nonRoots p (s .figures .runs)) (sym parents-stand))
+        (S .words .total ∙ stores-total s ws cells H)

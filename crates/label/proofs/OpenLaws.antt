@@ -15,6 +15,7 @@ use Rattle.frame.specs.Causes.{openCause}
 use Rattle.frame.specs.Plain.{opened}
 use Rattle.frame.specs.Lists.{entries, padded}
 use Rattle.frame.proofs.FrameRunLaws.{start-zero}
+use Rattle.frame.proofs.CellLaws.{cells-none}
 use Rattle.frame.proofs.CauseLaws.{rank-right, Allowed, open-accepted}
 use Rattle.frame.proofs.PlainLaws.{kept-new}
 use Rattle.frame.proofs.EntryLaws.{entries-padded}
@@ -73,7 +74,7 @@ module _ (shape structure ws : List ℕ) (A : Allowed shape structure (length ws
   opened-sound : Sound s ws′
   opened-sound =
       stores-sound s ws′ [] opened-stores (rw (opened-shape, opened-structure) opened-shaped)
-      (λ r h. absurd (not-suc-le-zero h)) (unfold nonRoots count in refl)
+      (λ r h. absurd (not-suc-le-zero h)) (unfold nonRoots count in refl) (sym cells-none)
 
   pub opened-inv : Inv s ws′
   opened-inv = record { is-sound = opened-sound; grouped = λ r h. absurd (not-suc-le-zero h) }

@@ -105,16 +105,17 @@ module _ (s : Session) (ws : List ℕ) {f : Shaped} (F : ShapeFound (s .rank) (s
       within = omega (arith, A .within, lines-are);
       memory = omega (arith, words-are, A .memory);
       short = omega (arith, width-is, within-limits (shapeOf s) (A .limits) .0);
+      small = rw (lines-are, width-is) (omega (arith, size-lines (shapeOf s), within-limits (shapeOf s) (A .limits) .2));
     }
 
     -- and what is left to test
     module _ {t : Bool}
-        (is : t ≡ wordsSound (f .geo .lines) (f .geo .width) (f .geo .left) (s .fed) (s .figures .runs) (s .figures .joins) ws) where
+        (is : t ≡ wordsSound (f .geo .lines) (f .geo .width) (f .geo .left) (s .fed) (s .figures) ws) where
       pub words-unsound : not t ≡ true → {r : Checked} → checkNumber (r .check) ≡ 6 → RecordFound s (soundCauseOf s ws) r
       words-unsound taken = unsound (λ S. true≢false (sym (all S) ∙ sym is ∙ not-true t taken))
         where
-          all : Sound s ws → wordsSound (g .lines) (g .width) (g .left) (s .fed) (s .figures .runs) (s .figures .joins) ws ≡ true
-          all S = rw (lines-are, width-is, left-is) (right-words _ _ _ _ _ _ ws (S .words))
+          all : Sound s ws → wordsSound (g .lines) (g .width) (g .left) (s .fed) (s .figures) ws ≡ true
+          all S = rw (lines-are, width-is, left-is) (right-words _ _ _ _ _ ws (S .words))
 
       pub words-found : not t ≡ false → {r : Checked} → (checkNumber (r .check) ≡ 0) × (r .geo ≡ f .geo)
           → RecordFound s (soundCauseOf s ws) r
@@ -126,5 +127,5 @@ module _ (s : Session) (ws : List ℕ) {f : Shaped} (F : ShapeFound (s .rank) (s
           S : Sound s ws
           S = record {
             shape = A;
-            words = words-right _ _ _ _ _ _ ws (rw (← lines-are, ← width-is, ← left-is) (sym is ∙ not-false t stays));
+            words = words-right _ _ _ _ _ ws (rw (← lines-are, ← width-is, ← left-is) (sym is ∙ not-false t stays));
           }

@@ -11,7 +11,7 @@ use lib.ListN.{length, getD}
 use Rattle.frame.specs.Shape.{width}
 use Rattle.frame.specs.Structure.{leftOn}
 use Rattle.frame.specs.ChainRule.{nonzero, any, range}
-use Rattle.frame.specs.Runs.{runs, Run, none, Covers, gapOf, lineOf, frameRuns, runsBefore, frameRun}
+use Rattle.frame.specs.Runs.{runs, nonzeroCells, Run, none, Covers, gapOf, lineOf, frameRuns, runsBefore, frameRun}
 use Rattle.frame.specs.Words.{lineStart, storedRun}
 use Rattle.frame.proofs.ChainRuleLaws.{any-found, any-at, nonzero-below}
 use Rattle.frame.proofs.LineLaws.{In, Apart, Within, in-below}
@@ -24,7 +24,7 @@ use Rattle.label.specs.Sound.{Sound}
 use Rattle.label.specs.Held.{holdsCell, cellsOf}
 use Rattle.label.proofs.SoundLaws.{starts-rise}
 use Rattle.label.proofs.HoldLaws.{holds-parts, parts-hold, length-held, nonzero-held}
-use Rattle.label.proofs.StoreLaws.{Stores}
+use Rattle.label.proofs.StoreLaws.{Stores, stores-total}
 use Rattle.label.proofs.ApartLaws.{Short, apart-from, line-only}
 
 module _ (s : Session) (ws : List ℕ) (K : Sound s ws) where
@@ -188,3 +188,7 @@ module _ (s : Session) (ws : List ℕ) (K : Sound s ws) where
   -- so runs are document 01's for those cells
   pub runs-held : s .figures .runs ≡ runs (shapeOf s) (structureOf s) (cellsOf s ws)
   runs-held = runs-are ∙ sym (runs-all dims bytes cells (s .fed) (sound-stores .fits))
+
+  -- and the total is document 02's
+  pub cells-held : s .figures .cells ≡ nonzeroCells (cellsOf s ws)
+  cells-held = K .words .total ∙ stores-total s ws (cellsOf s ws) sound-stores

@@ -25,14 +25,14 @@ module _ (s : Session) (ws : List ℕ) where
   unfolding sound
   sound-right h = record {
     shape = shape-sound-right _ _ _ _ (every-at _ 0 h);
-    words = words-right _ _ _ _ _ _ ws (every-at _ 1 h);
+    words = words-right _ _ _ _ _ ws (every-at _ 1 h);
   }
 
   pub right-sound : Sound s ws → sound s ws ≡ true
   unfolding sound
   right-sound S =
       every-more _ _ (right-shape-sound _ _ _ _ (S .shape))
-      (every-more _ _ (right-words _ _ _ _ _ _ ws (S .words))
+      (every-more _ _ (right-words _ _ _ _ _ ws (S .words))
       every-none)
 
 -- ---- of a sound record

@@ -1,6 +1,6 @@
 -- Words that hold the runs of cells: they give those cells back, and each nonzero cell's run.
 -- Assumes nothing.
-use mathlib.Core.Path.{_≡_, refl, sym, _∙_, subst}
+use mathlib.Core.Path.{_≡_, refl, sym, ap, _∙_, subst}
 use mathlib.Core.Bool.{Bool, true, false, true≢false}
 use mathlib.Core.List.{List}
 use Prim.Native.Nat.{ℕ, suc, _*_, _/_, _%_, _≤_, _<_}
@@ -9,11 +9,12 @@ use native.Mathlib.Omega.{arith}
 use lib.Seq.{ext-getD}
 use Rattle.frame.specs.Shape.{width}
 use Rattle.frame.specs.ChainRule.{nonzero, any}
-use Rattle.frame.specs.Runs.{runOf, Run, Covers, runsBefore, frameRun}
+use Rattle.frame.specs.Runs.{nonzeroCells, runOf, Run, Covers, runLengths, runsBefore, frameRun}
 use Rattle.frame.specs.Words.{lineStart, storedRun}
 use Rattle.frame.proofs.ShapeLaws.{factor-pos, Fits}
 use Rattle.frame.proofs.ChainRuleLaws.{any-found, any-at, nonzero-below}
 use Rattle.frame.proofs.FrameRunLaws.{start-le, run-cells, line-below, InRun, cell-run}
+use Rattle.frame.proofs.CellLaws.{lengths-same, runs-cells}
 use Rattle.frame.proofs.ListLaws.{last-only}
 use Rattle.label.specs.declared.Session.{Session}
 use Rattle.label.specs.Record.{shapeOf, structureOf, linesOf}
@@ -40,6 +41,13 @@ module _ (s : Session) (ws : List ℕ) (cells : List Bool) (H : Stores s ws cell
 
   abbrev of : ℕ → ℕ
   of = runOf (shapeOf s) (structureOf s) cells
+
+  -- the runs have as many cells as are nonzero
+  pub stores-total : runLengths (storedRun (linesOf s) ws) (s .figures .runs) ≡ nonzeroCells cells
+  stores-total =
+      lengths-same (storedRun (linesOf s) ws) (frameRun dims bytes cells) (s .figures .runs) (H .listed)
+      ∙ ap (runLengths (frameRun dims bytes cells)) (H .runs-are)
+      ∙ runs-cells dims bytes cells (s .fed) (H .fits)
 
   -- a nonzero cell is held by its run
   module _ (p : ℕ) (a : nonzero cells p ≡ true) where

@@ -9,7 +9,7 @@ use native.Mathlib.Omega.{arith}
 use lib.ListN.{length, getD}
 use Rattle.frame.specs.Shape.{width, lines}
 use Rattle.frame.specs.Structure.{leftOn}
-use Rattle.frame.specs.Runs.{Run, none, lineRuns, gapOf, lineOf, frameRuns, runsBefore, frameRun}
+use Rattle.frame.specs.Runs.{nonzeroCells, Run, none, lineRuns, gapOf, lineOf, frameRuns, runsBefore, frameRun}
 use Rattle.frame.specs.Memory.{perLine}
 use Rattle.frame.specs.Words.{lineStart, runStart, runEnd, parentOf, storedRun}
 use Rattle.frame.proofs.LineLaws.{Within}
@@ -20,7 +20,7 @@ use Rattle.sweep.specs.Sweeps.{InOrder}
 use Rattle.label.specs.declared.Session.{Session}
 use Rattle.label.specs.Record.{shapeOf, structureOf, linesOf}
 use Rattle.label.specs.Sound.{Sound}
-use Rattle.label.proofs.StoreLaws.{Stores}
+use Rattle.label.proofs.StoreLaws.{Stores, stores-total}
 use Rattle.label.proofs.ApartLaws.{Short, line-short}
 
 module _ (s : Session) (ws : List ℕ) (cells : List Bool) (H : Stores s ws cells) where
@@ -100,7 +100,8 @@ module _ (s : Session) (ws : List ℕ) (cells : List Bool) (H : Stores s ws cell
       before r high = omega (arith, there ℓ h, H .runs-are, start-le dims bytes cells (suc ℓ) (s .fed) h)
 
   module _ (shape : ShapeSound dims bytes (length ws) (s .fed)) (parents : (r : ℕ) → r < s .figures .runs → parentOf (linesOf s) ws r ≤ r)
-      (join-count : s .figures .joins ≡ nonRoots (parentOf (linesOf s) ws) (s .figures .runs)) where
+      (join-count : s .figures .joins ≡ nonRoots (parentOf (linesOf s) ws) (s .figures .runs))
+      (total : s .figures .cells ≡ nonzeroCells cells) where
     pub stores-sound : Sound s ws
     stores-sound = record {
       shape = shape;
@@ -115,5 +116,6 @@ module _ (s : Session) (ws : List ℕ) (cells : List Bool) (H : Stores s ws cell
         single = λ e r h. run-short r h e;
         parents = parents;
         join-count = join-count;
+        total = total ∙ sym (stores-total s ws cells H);
       };
     }

@@ -9,7 +9,8 @@ use Rattle.groups.specs.Numbers.{number}
 use Rattle.frame.specs.Shape.{size, width, leading, coords}
 use Rattle.frame.specs.Structure.{offset, backward, on, leftOn}
 use Rattle.frame.specs.ChainRule.{nonzero, sameList, any, leadsBy, edgesBy, edges, groupCount, label, range, labels}
-use Rattle.frame.specs.Runs.{goesOn, beginsRun, runs, stretches, singles, lineRuns, gapOf, lineOf, frameRuns, allRuns, runsBefore, frameRun}
+use Rattle.frame.specs.Runs.{goesOn, beginsRun, runs, nonzeroCells, runLengths, stretches, singles, lineRuns, gapOf, lineOf, frameRuns}
+use Rattle.frame.specs.Runs.{allRuns, runsBefore, frameRun}
 use Rattle.frame.specs.Touches.{reaches, used, hasNbr, nbrLine, touchesBy, touchesOf, touches}
 use Rattle.frame.specs.Kinds.{largest, holds}
 use Rattle.frame.specs.Memory.{perLine, wordsNeeded}
@@ -34,13 +35,13 @@ use Rattle.label.proofs.CallFunctions.{doFrame}
 -- what a computation opens
 unfoldable pub computed : Unit {0}
 unfolding merge rep isRoot count groups joins gather pairs visit number size width leading coords offset backward on leftOn nonzero
-    sameList any leadsBy edgesBy edges groupCount label range labels goesOn beginsRun runs stretches singles lineRuns gapOf lineOf
-    frameRuns allRuns runsBefore frameRun reaches used hasNbr nbrLine touchesBy touchesOf touches largest holds perLine wordsNeeded
-    badRank hasZero tooLarge unlike lopsided firstCause openTests openCause feedTests feedCause readTests readCause sizesTests sizesCause
-    frameTests frameCause unless kept feeds groupsOf figures entries shapeOf structureOf setAll up rootOf own roots nonRoots numberIn
-    grouping all every shapeSound wordsSound sound lastBelow holdsCell cellsOf holderOf rootCount numberAt sizeAt padded runsAfter
-    startAfter runAfter feedTouches feedEdges feedRecord withLines withRuns feedCauseOf withNames readCauseOf sizesCauseOf earlyCauseOf
-    frameCauseOf doOpen withParents feedWords doFeed doRead doSizes frameFeed doFrame zipWith
+    sameList any leadsBy edgesBy edges groupCount label range labels goesOn beginsRun runs nonzeroCells runLengths stretches singles
+    lineRuns gapOf lineOf frameRuns allRuns runsBefore frameRun reaches used hasNbr nbrLine touchesBy touchesOf touches largest holds
+    perLine wordsNeeded badRank hasZero tooLarge unlike lopsided firstCause openTests openCause feedTests feedCause readTests readCause
+    sizesTests sizesCause frameTests frameCause unless kept feeds groupsOf figures entries shapeOf structureOf setAll up rootOf own roots
+    nonRoots numberIn grouping all every shapeSound wordsSound sound lastBelow holdsCell cellsOf holderOf rootCount numberAt sizeAt padded
+    runsAfter startAfter runAfter feedTouches feedEdges feedRecord withLines withRuns feedCauseOf withNames readCauseOf sizesCauseOf
+    earlyCauseOf frameCauseOf doOpen withParents feedWords doFeed doRead doSizes frameFeed doFrame zipWith
 computed = tt
 
 -- ---- document 01's frame 1, fed line by line
@@ -61,8 +62,8 @@ line = true ∷ false ∷ true ∷ []
 abbrev pub whole : List Bool
 whole = true ∷ true ∷ true ∷ []
 
-abbrev pub f : ℕ → ℕ → Figures
-f r j = record { runs = r; joins = j }
+abbrev pub f : ℕ → ℕ → ℕ → Figures
+f r j c = record { runs = r; joins = j; cells = c }
 
 unfoldable pub begun : OpenResult
 begun = doOpen frame cross memory
@@ -82,7 +83,7 @@ junk = replicate 9 5
 
 -- 256 cells, each a group of its own: more than u8 holds
 abbrev pub wide : Session
-wide = record { rank = 1; shape = 256 ∷ 0 ∷ 0 ∷ 0 ∷ []; structure = replicate 81 0; fed = 1; figures = record { runs = 256; joins = 0 } }
+wide = record { rank = 1; shape = 256 ∷ 0 ∷ 0 ∷ 0 ∷ []; structure = replicate 81 0; fed = 1; figures = f 256 0 256 }
 
 abbrev pub wideWords : List ℕ
 wideWords = 0 ∷ 256 ∷ gather (λ r. r ∷ suc r ∷ r ∷ 7 ∷ []) 0 256
@@ -92,6 +93,5 @@ abbrev pub put : ℕ → ℕ → List ℕ
 put i v = set (two .words) i v
 
 -- records of the frame, with other figures
-abbrev pub held : ℕ → ℕ → ℕ → Session
-held l r j =
-    record { rank = 2; shape = 3 ∷ 3 ∷ 0 ∷ 0 ∷ []; structure = cross ++ replicate 72 0; fed = l; figures = record { runs = r; joins = j } }
+abbrev pub held : ℕ → ℕ → ℕ → ℕ → Session
+held l r j c = record { rank = 2; shape = 3 ∷ 3 ∷ 0 ∷ 0 ∷ []; structure = cross ++ replicate 72 0; fed = l; figures = f r j c }

@@ -27,6 +27,11 @@ joinsSaid (fed l g) = g .joins
 joinsSaid (counted n g) = g .joins
 joinsSaid (refused c) = 0
 
+abbrev cellsSaid : Answer → ℕ
+cellsSaid (fed l g) = g .cells
+cellsSaid (counted n g) = g .cells
+cellsSaid (refused c) = 0
+
 abbrev numberSaid : Answer → ℕ
 numberSaid (fed l g) = 0
 numberSaid (counted n g) = 0
@@ -107,13 +112,31 @@ unfolding begun one computed
 stores-no-words a s P = let z : _≡_ {A = ℕ} 7 4 = P .accepted refl .others 2 (λ r h e. omega arith) in omega arith
 
 -- joins invented, or padded with idle unions: in the record, in the answer
-padded-joins : (a : Answer) (ws : List ℕ) → Third a (held 3 5 5) ws → ⊥
+padded-joins : (a : Answer) (ws : List ℕ) → Third a (held 3 5 5 7) ws → ⊥
 unfolding begun one two computed
 padded-joins a ws P = let z : _≡_ {A = ℕ} 5 4 = ap (λ (x : Session). x .figures .joins) (P .session) in omega arith
 
-told-wrong : (s : Session) (ws : List ℕ) → Third (fed 3 (f 5 5)) s ws → ⊥
+told-wrong : (s : Session) (ws : List ℕ) → Third (fed 3 (f 5 5 7)) s ws → ⊥
 unfolding begun one two computed
 told-wrong s ws P = let z : _≡_ {A = ℕ} 5 4 = ap joinsSaid (P .said) in omega arith
+
+-- the cells of the last run are forgotten; runs are told for cells; the record keeps the total of the feed before
+last-forgotten : (s : Session) (ws : List ℕ) → Third (fed 3 (f 5 4 4)) s ws → ⊥
+unfolding begun one two computed
+last-forgotten s ws P = let z : _≡_ {A = ℕ} 4 7 = ap cellsSaid (P .said) in omega arith
+
+runs-for-cells : (s : Session) (ws : List ℕ) → Third (fed 3 (f 5 4 5)) s ws → ⊥
+unfolding begun one two computed
+runs-for-cells s ws P = let z : _≡_ {A = ℕ} 5 7 = ap cellsSaid (P .said) in omega arith
+
+total-kept : (a : Answer) (ws : List ℕ) → Third a (held 3 5 4 4) ws → ⊥
+unfolding begun one two computed
+total-kept a ws P = let z : _≡_ {A = ℕ} 4 7 = ap (λ (x : Session). x .figures .cells) (P .session) in omega arith
+
+-- a record whose total is not the sum of its run lengths is fed
+feeds-any-total : (l : ℕ) (g : Figures) (s : Session) (ws : List ℕ) → FeedPromise (held 2 4 2 5) (two .words) 1 whole (fed l g) s ws → ⊥
+unfolding begun one two computed
+feeds-any-total l g s ws P = let z : _≡_ {A = ℕ} 0 6 = ap numberSaid (P .said) in omega arith
 
 -- 7 with a line still to come
 early-seven : (s : Session) (ws : List ℕ) → Third (refused 7) s ws → ⊥
@@ -140,7 +163,7 @@ unfolding begun one two computed
 larger-root a s P = let z : _≡_ {A = ℕ} 2 0 = P .accepted refl .grouped 2 (omega arith) in omega arith
 
 -- a feed of no lines halves the way from run 3 over run 1 to run 0: the grouping stands, but a word changes
-halves : (a : Answer) (s : Session) → FeedPromise (held 2 4 3) (put 10 0) 0 [] a s (set (put 10 0) 18 0) → ⊥
+halves : (a : Answer) (s : Session) → FeedPromise (held 2 4 3 4) (put 10 0) 0 [] a s (set (put 10 0) 18 0) → ⊥
 unfolding begun one two computed
 halves a s P = let z : _≡_ {A = ℕ} 0 1 = ap (word 18) (P .accepted refl .no-lines refl) in omega arith
 
@@ -150,7 +173,7 @@ writes-refused : (a : Answer) (s : Session) (ws : List ℕ) → FeedPromise (two
 unfolding begun one two computed
 writes-refused a s ws P e = let h : 0 < 7 = omega arith in let z : word 3 ws ≡ 7 = ap (word 3) (P .refusal h) in omega arith
 
-stores-refused : (a : Answer) (ws : List ℕ) → FeedPromise (two .session) (two .words) 2 (line ++ line) a (held 4 8 6) ws → ⊥
+stores-refused : (a : Answer) (ws : List ℕ) → FeedPromise (two .session) (two .words) 2 (line ++ line) a (held 4 8 6 8) ws → ⊥
 unfolding begun one two computed
 stores-refused a ws P = let z : _≡_ {A = ℕ} 4 2 = ap (λ (x : Session). x .fed) (P .session) in omega arith
 
@@ -177,6 +200,11 @@ leaves-unfed : (a : Answer) (s : Session) (ws : List ℕ) → Reading a s ws (1 
 unfolding begun one two computed
 leaves-unfed a s ws P = let z : _≡_ {A = ℕ} 5 0 = ap (word 6) (P .output) in omega arith
 
+-- the cells are told of the lines that are not fed too
+all-cells-told : (s : Session) (ws out : List ℕ) → Reading (counted 2 (f 4 2 9)) s ws out → ⊥
+unfolding begun one two computed
+all-cells-told s ws out P = let z : _≡_ {A = ℕ} 9 4 = ap cellsSaid (P .said) in omega arith
+
 -- 10 before n is compared
 early-ten : (s : Session) (ws out : List ℕ) → Reading (refused 10) s ws out → ⊥
 unfolding begun one two computed
@@ -191,7 +219,7 @@ changes-parent : (a : Answer) (s : Session) (ws out : List ℕ) → Reading a s 
 unfolding begun one two computed
 changes-parent a s ws out P e = let z : word 14 ws ≡ 0 = ap (word 14) (P .words) in omega arith
 
-another-record : (a : Answer) (ws out : List ℕ) → Reading a (held 2 4 3) ws out → ⊥
+another-record : (a : Answer) (ws out : List ℕ) → Reading a (held 2 4 3 4) ws out → ⊥
 unfolding begun one two computed
 another-record a ws out P = let z : _≡_ {A = ℕ} 3 2 = ap (λ (x : Session). x .figures .joins) (P .session) in omega arith
 
@@ -215,6 +243,11 @@ shifted : (a : Answer) (s : Session) (ws : List ℕ) → Sizing a s ws (5 ∷ 2 
 unfolding begun one two computed
 shifted a s ws P = let z : _≡_ {A = ℕ} 5 2 = ap (word 0) (P .output) in omega arith
 
+-- no cells are told
+no-cells-told : (s : Session) (ws out : List ℕ) → Sizing (counted 2 (f 4 2 0)) s ws out → ⊥
+unfolding begun one two computed
+no-cells-told s ws out P = let z : _≡_ {A = ℕ} 0 4 = ap cellsSaid (P .said) in omega arith
+
 names-none : (a : Answer) (s : Session) (out : List ℕ) → Sizing a s (two .words) out → ⊥
 unfolding begun one two computed
 names-none a s out P = let z : _≡_ {A = ℕ} 7 1 = ap (word 7) (P .words) in omega arith
@@ -229,9 +262,14 @@ whole-apart : (a : Answer) (ws : List ℕ) → Labels junk a ws (1 ∷ 0 ∷ 2 �
 unfolding computed
 whole-apart a ws P = let z : _≡_ {A = ℕ} 2 1 = ap (word 2) (P .output) in omega arith
 
-whole-told : (ws out : List ℕ) → Labels junk (counted 1 (f 5 5)) ws out → ⊥
+whole-told : (ws out : List ℕ) → Labels junk (counted 1 (f 5 5 7)) ws out → ⊥
 unfolding computed
 whole-told ws out P = let z : _≡_ {A = ℕ} 5 4 = ap joinsSaid (P .said) in omega arith
+
+-- the cells of the last line alone are answered
+whole-last-cells : (ws out : List ℕ) → Labels junk (counted 1 (f 5 4 3)) ws out → ⊥
+unfolding computed
+whole-last-cells ws out P = let z : _≡_ {A = ℕ} 3 7 = ap cellsSaid (P .said) in omega arith
 
 -- accepted, it stores no line's start; it names no run
 whole-stores : (a : Answer) (ws out : List ℕ) → Labels junk a ws out → word 1 ws ≡ 7 → ⊥
@@ -239,9 +277,9 @@ unfolding computed
 whole-stores a ws out P e =
     let F = P .accepted refl in
     let v = F .fed-words in
-    let s : F .session ≡ held 3 5 4 = F .fed-all .session in
-    let n : ws ≡ withNames (held 3 5 4) v = rw s at (F .names) in
-    let names : word 1 (withNames (held 3 5 4) v) ≡ word 1 v = setAll-other (namePlace 3) (numberIn (parentOf 3 v)) 5 v 1
+    let s : F .session ≡ held 3 5 4 7 = F .fed-all .session in
+    let n : ws ≡ withNames (held 3 5 4 7) v = rw s at (F .names) in
+    let names : word 1 (withNames (held 3 5 4 7) v) ≡ word 1 v = setAll-other (namePlace 3) (numberIn (parentOf 3 v)) 5 v 1
     (λ r h q. omega arith) in
     let z : word 1 v ≡ 2 = F .fed-all .accepted refl .others 1 (λ r h q. omega arith) in
     omega (arith, ap (word 1) n)
@@ -251,12 +289,12 @@ unfolding computed
 whole-names a ws out P e =
     let F = P .accepted refl in
     let v = F .fed-words in
-    let s : F .session ≡ held 3 5 4 = F .fed-all .session in
-    let n : ws ≡ withNames (held 3 5 4) v = rw s at (F .names) in
+    let s : F .session ≡ held 3 5 4 7 = F .fed-all .session in
+    let n : ws ≡ withNames (held 3 5 4 7) v = rw s at (F .names) in
     let long : length v ≡ 28 = F .fed-all .accepted refl .long in
     let low : word 6 v ≤ 0 = F .fed-all .accepted refl .parents 0 (omega arith) in
     let root : word 6 v ≡ 0 = omega arith in
-    let names : word 7 (withNames (held 3 5 4) v) ≡ numberIn (parentOf 3 v) 0 = setAll-at (namePlace 3) (numberIn (parentOf 3 v)) 5 v
+    let names : word 7 (withNames (held 3 5 4 7) v) ≡ numberIn (parentOf 3 v) 0 = setAll-at (namePlace 3) (numberIn (parentOf 3 v)) 5 v
     (λ i j a b q. omega arith) 0 (omega arith) (omega arith) in
     let z : numberIn (parentOf 3 v) 0 ≡ 1 = rw root in
     omega (arith, ap (word 7) n)

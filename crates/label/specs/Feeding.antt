@@ -8,7 +8,7 @@ use lib.Dec.{ltb, leb}
 use lib.ListN.{length, getD}
 use Rattle.groups.specs.Groups.{Edge, rep, joins, visit}
 use Rattle.frame.specs.Shape.{width, leading}
-use Rattle.frame.specs.Runs.{runs, Run, runsBefore, frameRun}
+use Rattle.frame.specs.Runs.{runs, nonzeroCells, Run, runsBefore, frameRun}
 use Rattle.frame.specs.Touches.{touches}
 use Rattle.frame.specs.Causes.{feedCause}
 use Rattle.frame.specs.declared.Figures.{Figures}
@@ -50,7 +50,7 @@ module _ (s : Session) (ws : List ℕ) (k : ℕ) (cells : List Bool) where
   -- ---- the record afterwards
 
   abbrev pub figuresAfter : Figures
-  figuresAfter = record { runs = runsAfter s cells; joins = joins feedEdges }
+  figuresAfter = record { runs = runsAfter s cells; joins = joins feedEdges; cells = s .figures .cells + nonzeroCells cells }
 
   unfoldable pub feedRecord : Session
   feedRecord = withFigures s (s .fed + k) figuresAfter

@@ -20,7 +20,7 @@ use Rattle.label.specs.Held.{rootCount, numbersHeld, sizesHeld}
 unfoldable pub withNames : Session → List ℕ → List ℕ
 withNames s ws = setAll (namePlace (linesOf s)) (numberIn (parentOf (linesOf s) ws)) (s .figures .runs) ws
 
--- n, runs and joins
+-- n and the figures
 abbrev pub countedOf : Session → List ℕ → Answer
 countedOf s ws = counted (rootCount s ws) (s .figures)
 

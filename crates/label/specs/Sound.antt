@@ -1,4 +1,5 @@
--- Sound: no clause of document 01's "Unsound, exactly" holds. Clause by clause in its order, and the test that decides it.
+-- Sound: no clause of document 01's "Unsound, exactly" holds, nor of those that document 02 adds. Clause by clause in their order, and the
+-- test that decides it.
 -- Assumes nothing.
 use mathlib.Core.Bool.{Bool}
 use mathlib.Core.List.{List, [], _∷_}
@@ -34,12 +35,12 @@ module _ (s : Session) (ws : List ℕ) where
   pub record Sound : Type 0 where
     -- the clauses about shape, memory and lines fed: they stand in crate geo, with the code that tests them
     pub shape : ShapeSound dims bytes (length ws) (s .fed)
-    -- the clauses about the words, from word 0 to joins: they stand in crate sound, with the pass that decides them
-    pub words : WordsSound L w left (s .fed) (s .figures .runs) (s .figures .joins) ws
+    -- the clauses about the words, from word 0 to the total: they stand in crate sound, with the pass that decides them
+    pub words : WordsSound L w left (s .fed) (s .figures) ws
 
   -- computed: that it decides `Sound` is proved in proofs/SoundLaws.antt
   unfoldable pub sound : Bool
   sound =
       every (shapeSound dims bytes (length ws) (s .fed)
-      ∷ wordsSound L w left (s .fed) (s .figures .runs) (s .figures .joins) ws
+      ∷ wordsSound L w left (s .fed) (s .figures) ws
       ∷ [])

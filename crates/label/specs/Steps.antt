@@ -12,6 +12,7 @@ use Rattle.geo.specs.declared.Geo.{Geo}
 use Rattle.geo.specs.Geometry.{GeoOf}
 use Rattle.causes.specs.declared.Checked.{Checked}
 use Rattle.causes.specs.Checks.{Found}
+use Rattle.runs.specs.declared.Counts.{Counts}
 use Rattle.block.specs.Blocks.{Block}
 use Rattle.label.specs.declared.Session.{Session}
 use Rattle.label.specs.Record.{shapeOf, structureOf, linesOf}
@@ -38,11 +39,11 @@ module _ (s : Session) (ws : List ℕ) (k : ℕ) (cells : List Bool) where
     pub few : k ≤ linesOf s - s .fed
     pub whole : length cells ≡ k * width (shapeOf s)
 
-  -- the words once the new lines' runs are extracted, and how many runs there are then
-  pub record FeedExtracted (g : Geo) (ws′ : List ℕ) (n : ℕ) : Type 0 where
+  -- the words once the new lines' runs are extracted, and how many runs and nonzero cells those have
+  pub record FeedExtracted (g : Geo) (ws′ : List ℕ) (c : Counts) : Type 0 where
     pub given : FeedAccepted
     pub geometry : GeoOf (s .rank) (s .shape) (s .structure) g
-    pub block : Block (leftOn (shapeOf s) (structureOf s)) (width (shapeOf s)) (linesOf s) (s .fed) (s .figures .runs) k cells ws ws′ n
+    pub block : Block (leftOn (shapeOf s) (structureOf s)) (width (shapeOf s)) (linesOf s) (s .fed) (s .figures .runs) k cells ws ws′ c
 
   -- the record and the words after the feed
   pub record FeedDone (s′ : Session) (ws′ : List ℕ) : Type 0 where
@@ -50,10 +51,10 @@ module _ (s : Session) (ws : List ℕ) (k : ℕ) (cells : List Bool) where
     pub words : FeedWords s ws k cells ws′
 
 -- the words are those of some feed whose lines are extracted
-pub record SomeExtracted (s : Session) (g : Geo) (k : ℕ) (ws′ : List ℕ) (n : ℕ) : Type 0 where
+pub record SomeExtracted (s : Session) (g : Geo) (k : ℕ) (ws′ : List ℕ) (c : Counts) : Type 0 where
   pub words : List ℕ
   pub cells : List Bool
-  pub extracted : FeedExtracted s words k cells g ws′ n
+  pub extracted : FeedExtracted s words k cells g ws′ c
 
 -- ---- reading
 

@@ -143,7 +143,7 @@ impl Session {
             return causes::refused(causes::Cause::Unsound);
         }
         let g = shaped.geo;
-        if !sound::words_sound(words, g, self.fed, self.figures.runs, self.figures.joins) {
+        if !sound::words_sound(words, g, self.fed, self.figures) {
             return causes::refused(causes::Cause::Unsound);
         }
         causes::passed(g)
@@ -181,8 +181,8 @@ impl Session {
             return answer_feed(self, check);
         }
         let g = found.geo;
-        let runs = block::extract_block_u8(cells, g, words, self.fed, self.figures.runs, k);
-        answer_feed(self.union_lines(words, g, k, runs), check)
+        let new = block::extract_block_u8(cells, g, words, self.fed, self.figures.runs, k);
+        answer_feed(self.union_lines(words, g, k, new), check)
     }
 
     pub fn feed_u16(self, words: &mut [u32], k: usize, cells: &[u16]) -> Fed
@@ -195,8 +195,8 @@ impl Session {
             return answer_feed(self, check);
         }
         let g = found.geo;
-        let runs = block::extract_block_u16(cells, g, words, self.fed, self.figures.runs, k);
-        answer_feed(self.union_lines(words, g, k, runs), check)
+        let new = block::extract_block_u16(cells, g, words, self.fed, self.figures.runs, k);
+        answer_feed(self.union_lines(words, g, k, new), check)
     }
 
     pub fn feed_i16(self, words: &mut [u32], k: usize, cells: &[i16]) -> Fed
@@ -209,8 +209,8 @@ impl Session {
             return answer_feed(self, check);
         }
         let g = found.geo;
-        let runs = block::extract_block_i16(cells, g, words, self.fed, self.figures.runs, k);
-        answer_feed(self.union_lines(words, g, k, runs), check)
+        let new = block::extract_block_i16(cells, g, words, self.fed, self.figures.runs, k);
+        answer_feed(self.union_lines(words, g, k, new), check)
     }
 
     pub fn feed_f32(self, words: &mut [u32], k: usize, cells: &[f32]) -> Fed
@@ -223,23 +223,24 @@ impl Session {
             return answer_feed(self, check);
         }
         let g = found.geo;
-        let runs = block::extract_block_f32(cells, g, words, self.fed, self.figures.runs, k);
-        answer_feed(self.union_lines(words, g, k, runs), check)
+        let new = block::extract_block_f32(cells, g, words, self.fed, self.figures.runs, k);
+        answer_feed(self.union_lines(words, g, k, new), check)
     }
 }
 
 impl Session {
-    // Unites the extracted lines with their neighbours, and gives the record afterwards. `runs` is the count of runs then.
-    fn union_lines(self, words: &mut [u32], g: geo::Geo, k: usize, runs: usize) -> Session
-        requires { ⌜ SomeExtracted self g k (now words) runs ⌝ }
-        ensures { λ r. ⌜ ((ws : List ℕ) (cells : List Bool) → FeedExtracted self ws k cells g (now (words .entry)) runs →
+    // Unites the extracted lines with their neighbours, and gives the record afterwards. `new` counts their runs and nonzero cells.
+    fn union_lines(self, words: &mut [u32], g: geo::Geo, k: usize, new: runs::Counts) -> Session
+        requires { ⌜ SomeExtracted self g k (now words) new ⌝ }
+        ensures { λ r. ⌜ ((ws : List ℕ) (cells : List Bool) → FeedExtracted self ws k cells g (now (words .entry)) new →
             FeedDone self ws k cells r (now (words .exit))) ⌝ }
     {
         let joins = block::union_block(words, g, &self.structure, self.fed, k);
-        let figures = frame::Figures {
-            runs,
-            joins: self.figures.joins + joins,
-        };
+        let figures = self.figures.plus(frame::Figures {
+            runs: new.runs,
+            joins,
+            cells: new.cells,
+        });
         let mut s = self;
         s.fed += k;
         s.figures = figures;

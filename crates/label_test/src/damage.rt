@@ -1,5 +1,6 @@
-// Damaged records and memories: one field or word changed so that a clause of document 01's "Unsound, exactly" holds, or the structure made
-// lopsided. A feed, a reading and a size call that would be accepted must then get 6 and leave record, words and output as they were.
+// Damaged records and memories: one field or word changed so that a clause of document 01's "Unsound, exactly" holds, or the total made
+// wrong, or the structure lopsided. A feed, a reading and a size call that would be accepted must then get 6 and leave record, words and
+// output as they were. Where a run is damaged the total is made that of the damaged runs, so that it is not the total that tells.
 use flood::Extent;
 use flood::get;
 use flood::layout;
@@ -14,19 +15,21 @@ use samples::tally;
 use trial::answers;
 use trial::answers::Done;
 
-// The damages: of the record, of which the last is its structure's, then of the line starts, then of a run, then the shorter memory. The
-// last is none, for which the calls are accepted.
-const STRUCTURE: usize = 10;
+// The damages: of the record, of which the last are its total's and its structure's, then of the line starts, then of a run, then the
+// shorter memory. The last is none, for which the calls are accepted.
+const TOTAL: usize = 10;
 
-const LINES: usize = 11;
+const STRUCTURE: usize = 14;
 
-const CROWDED: usize = 14;
+const LINES: usize = 15;
 
-const RUNS: usize = 15;
+const CROWDED: usize = 18;
 
-const SHORTER: usize = 23;
+const RUNS: usize = 19;
 
-const NONE: usize = 24;
+const SHORTER: usize = 27;
+
+const NONE: usize = 28;
 
 // ---- records
 
@@ -65,14 +68,36 @@ fn damage_structure(structure: [u8; 81], rank: usize, d: usize, x: u64) -> [u8; 
     structure
 }
 
-fn damage_figures(figures: frame::Figures, d: usize) -> frame::Figures {
-    frame::Figures {
-        runs: less(plus(figures.runs, (d == 6) as usize), (d == 7) as usize),
-        joins: less(plus(figures.joins, (d == 8) as usize), (d == 9) as usize),
+// Of the total: 0, one more; 1, one less, or of an empty frame one more; 2, 2^32 more; 3, the largest number there is.
+fn damage_total(cells: usize, d: usize) -> usize {
+    match d {
+        0 => plus(cells, 1),
+        1 => {
+            if cells == 0 {
+                return 1;
+            }
+            less(cells, 1)
+        }
+        2 => plus(cells, 4294967296),
+        3 => 18446744073709551615,
+        _ => cells,
     }
 }
 
-fn damage_record(session: Session, lines: usize, d: usize, x: u64) -> Session {
+// `cells` is the total of the runs as the words then have them.
+fn damage_figures(figures: frame::Figures, cells: usize, d: usize) -> frame::Figures {
+    frame::Figures {
+        runs: less(plus(figures.runs, (d == 6) as usize), (d == 7) as usize),
+        joins: less(plus(figures.joins, (d == 8) as usize), (d == 9) as usize),
+        cells: if d < TOTAL {
+            cells
+        } else {
+            damage_total(cells, less(d, TOTAL))
+        },
+    }
+}
+
+fn damage_record(session: Session, lines: usize, cells: usize, d: usize, x: u64) -> Session {
     let shape = session.shape;
     let structure = session.structure;
     Session {
@@ -80,7 +105,7 @@ fn damage_record(session: Session, lines: usize, d: usize, x: u64) -> Session {
         shape: damage_shape(shape, session.rank, d),
         structure: damage_structure(structure, session.rank, d, x),
         fed: if d == 5 { plus(lines, 1) } else { session.fed },
-        figures: damage_figures(session.figures, d),
+        figures: damage_figures(session.figures, cells, d),
     }
 }
 
@@ -260,7 +285,8 @@ fn try_damage(
     }
     let kept = bad;
     let memory = less(layout::words_needed(e), (d == SHORTER) as usize);
-    let s = damage_record(session, e.lines, d, tally::random(state));
+    let cells = layout::sum_lengths(&bad, e, session.figures.runs);
+    let s = damage_record(session, e.lines, cells, d, tally::random(state));
     call_all(
         s,
         samples::lend_u32(&mut bad, memory),
@@ -274,7 +300,7 @@ fn try_damage(
 }
 
 fn try_damages(session: Session, e: Extent, words: [u32; 3201], n: usize, state: &mut [u64; 40]) {
-    for d in 0..25 {
+    for d in 0..29 {
         try_damage(session, e, words, n, d, state);
     }
 }

@@ -76,7 +76,7 @@ module _ (rank fed : ℕ) (f : Figures) (structure t : List ℕ) (n : length str
   read-back (a ∷ []) e = absurd (omega arith)
   read-back (a ∷ b ∷ []) e = absurd (omega arith)
   read-back (a ∷ b ∷ c ∷ []) e = absurd (omega arith)
-  read-back (a ∷ b ∷ c ∷ d ∷ []) e = rw (take-at structure figures 81 n, figure 0, figure 1, figure 2) refl
+  read-back (a ∷ b ∷ c ∷ d ∷ []) e = rw (take-at structure figures 81 n, figure 0, figure 1, figure 2, figure 3) refl
   read-back (a ∷ b ∷ c ∷ d ∷ x ∷ l) e = absurd (omega arith)
 
 -- an array of four, one of 81 bytes

@@ -11,11 +11,11 @@ use Rattle.label.specs.declared.Session.{Session}
 
 -- how many
 abbrev pub recordWords : ℕ
-recordWords = 89
+recordWords = 90
 
 -- the words of the figures: in a record, and in an answer
 abbrev pub figureWords : Figures → List ℕ
-figureWords f = f .runs ∷ f .joins ∷ []
+figureWords f = f .runs ∷ f .joins ∷ f .cells ∷ []
 
 -- the words of a record
 unfoldable pub wordsOf : Session → List ℕ
@@ -33,7 +33,7 @@ recordOf r =
       shape = getD r 1 0 ∷ getD r 2 0 ∷ getD r 3 0 ∷ getD r 4 0 ∷ [];
       structure = structureWords r;
       fed = getD r 86 0;
-      figures = record { runs = getD r 87 0; joins = getD r 88 0 };
+      figures = record { runs = getD r 87 0; joins = getD r 88 0; cells = getD r 89 0 };
     }
 
 -- is each word a byte?

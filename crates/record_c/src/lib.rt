@@ -9,7 +9,7 @@ ghost use Rattle.record_c.specs.Early.{recordEarly};
 ghost use Rattle.record_c.specs.Ends.{recordAfter, FeedEnd, ReadEnd};
 
 // The words of a record: rank, shape, structure, lines fed, and the figures. A byte of the structure has a word of its own.
-pub const RECORD_WORDS: usize = 89;
+pub const RECORD_WORDS: usize = 90;
 
 // The least words of an answer. It has room to spare: what a call does not say is not written.
 pub const ANSWER_WORDS: usize = 8;
@@ -68,6 +68,7 @@ pub fn record_of(rec: &[u64]) -> label::Session
         figures: frame::Figures {
             runs: rec[87] as usize,
             joins: rec[88] as usize,
+            cells: rec[89] as usize,
         },
     }
 }
@@ -116,7 +117,8 @@ fn put_figures(buf: &mut [u64], at: usize, count: usize, figures: frame::Figures
 {
     let second = put(buf, at, count as u64);
     let third = put(buf, second, figures.runs as u64);
-    put(buf, third, figures.joins as u64)
+    let fourth = put(buf, third, figures.joins as u64);
+    put(buf, fourth, figures.cells as u64)
 }
 
 fn put_bytes(buf: &mut [u64], at: usize, list: &[u8]) -> usize

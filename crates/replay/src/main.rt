@@ -1,6 +1,6 @@
 // Replays stored answers of the Rust with no Rust at hand: each line of standard input is a whole frame with the answer that the Rust's
-// `label_impl` gave; the frame is labelled here, by crate whole, and n and every label are compared. Where the Rust declined, the call
-// must be refused with 10 and leave the output as it was. A line, of at most 1,500 bytes:
+// `label_impl` gave; the frame is labelled here, by crate whole, and n and every label are compared, and the nonzero cells with the labels
+// that are not 0. Where the Rust declined, the call must be refused with 10 and leave the output as it was. A line, of at most 1,500 bytes:
 //
 //     C N B RANK D0 .. D(rank-1) STRUCTURE CELLS ANSWER
 //
@@ -72,6 +72,15 @@ fn agrees(values: &[usize; 3200], from: usize, to: usize, n: usize, got: &[u32; 
     alike
 }
 
+// How many of the labels, the fields from `from` to before `to`, are not 0.
+fn count_labelled(values: &[usize; 3200], from: usize, to: usize) -> usize {
+    let mut cells = 0;
+    for field in from..to {
+        cells = plus(cells, (value(values, field) != 0) as usize);
+    }
+    cells
+}
+
 fn shape_of(values: &[usize; 3200]) -> &[usize] {
     let t = &values[..];
     &t[4..]
@@ -105,7 +114,9 @@ fn label(
         values[2],
         &mut got,
     );
-    agrees(values, plus(rank, 7), fields, said(answer), &got)
+    let from = plus(rank, 7);
+    let total = answer.figures.cells == count_labelled(values, from, fields);
+    total & agrees(values, from, fields, said(answer), &got)
 }
 
 // A frame whose cells are these characters: its outcome.

@@ -1,4 +1,4 @@
--- A line by chunks of 64 cells: the boundaries that a chunk's mask gives, and then those of the rest of the line.
+-- A line by chunks of 64 cells: the boundaries and the nonzero cells that a chunk's mask gives, and then those of the rest of the line.
 -- Assumes nothing.
 use mathlib.Core.Bool.{Bool, true, false}
 use mathlib.Core.Path.{_≡_, refl, sym, ap, ap₂, _∙_}
@@ -10,12 +10,15 @@ use lib.ListN.{length, getD, drop, length-drop, drop-of-length-le, List·getD-eq
 use lib.Seq.{drop-drop}
 use lib.Arith.{digits-div, digits-mod}
 use lib.Bits.{bitOr, bitXor, xor-step, differ}
+use lib.Count.{ones}
 use Rattle.frame.specs.Kinds.{nz}
-use Rattle.frame.specs.Runs.{lineRuns}
+use Rattle.frame.specs.Runs.{nonzeroCells, lineRuns}
+use Rattle.frame.proofs.CellLaws.{cells-none, cells-most}
 use Rattle.runs.specs.Extract.{Room, Extracted}
 use Rattle.runs.specs.Masks.{bit, maskOf}
 use Rattle.runs.specs.Boundaries.{BoundaryRoom, Put, consIf, places, alone, edgeBits, chunkBoundaries}
 use Rattle.runs.proofs.MaskLaws.{bit-lt, mask-nil, mask-lt, places-zero, places-cons, top, moved}
+use Rattle.runs.proofs.ChunkCellLaws.{chunk-cells}
 use Rattle.runs.proofs.BoundaryLaws.{lineBoundaries, boundariesOf, length-boundaries, put-boundaries, line-boundaries, none-past}
 use Rattle.runs.proofs.BoundaryLaws.{Rest, rest-all, rest-same, rest-put, rest-fits, rest-none}
 
@@ -146,10 +149,11 @@ chunk-alone left m carry x e = ap (λ (b : Bool). chunkBoundaries b m carry x) e
 
 -- ---- the loop over chunks
 
--- at column x: what is left to be written is the boundaries from there on
-pub record Going (left : Bool) (flags : List Bool) (ws₀ : List ℕ) (i : ℕ) (ws : List ℕ) (k carry x : ℕ) : Type 0 where
+-- at column x: what is left to be written is the boundaries from there on, and what is left to be counted the cells
+pub record Going (left : Bool) (flags : List Bool) (ws₀ : List ℕ) (i : ℕ) (ws : List ℕ) (k cells carry x : ℕ) : Type 0 where
   pub carried : carry < 2
   pub inside : x ≤ length flags
+  pub counted : cells + nonzeroCells (drop x flags) ≡ nonzeroCells flags
   pub rest : Rest ws₀ i 0 (boundariesOf (lineRuns left flags)) ws k (lineBoundaries left (nz carry) x (drop x flags))
 
 module _ {left : Bool} {flags : List Bool} {ws₀ : List ℕ} {i : ℕ} where
@@ -160,15 +164,16 @@ module _ {left : Bool} {flags : List Bool} {ws₀ : List ℕ} {i : ℕ} where
       let s = r .short in
       record { runs = length (lineRuns left flags); below = omega arith; room = omega arith; short = omega arith }
 
-  pub going-begin : Going left flags ws₀ i ws₀ 0 0 0
+  pub going-begin : Going left flags ws₀ i ws₀ 0 0 0 0
   unfolding nz
   going-begin = record {
     carried = omega arith;
     inside = omega arith;
+    counted = omega arith;
     rest = rest-same refl refl (sym (line-boundaries left flags)) (rest-all ws₀ i 0 (boundariesOf (lineRuns left flags)));
   }
 
-  module _ {ws : List ℕ} {k carry x : ℕ} (g : Going left flags ws₀ i ws k carry x) where
+  module _ {ws : List ℕ} {k cells carry x : ℕ} (g : Going left flags ws₀ i ws k cells carry x) where
     split : (m : ℕ) → m ≡ maskOf 64 (drop x flags)
         → Rest ws₀ i 0 (boundariesOf (lineRuns left flags)) ws k
         (chunkBoundaries left m carry x ++ lineBoundaries left (nz (m / 2 ^ 63)) (x + 64) (drop (x + 64) flags))
@@ -182,16 +187,31 @@ module _ {left : Bool} {flags : List Bool} {ws₀ : List ℕ} {i : ℕ} where
     pub going-fits : (m : ℕ) → m ≡ maskOf 64 (drop x flags) → Room left flags ws₀ i → BoundaryRoom ws i k x (chunkBoundaries left m carry x)
     going-fits m e r = rest-fits x (chunkBoundaries left m carry x) _ (split m e) (room-fits x (g .inside) r)
 
-    -- and are written
-    pub going-turn : {ws′ : List ℕ} {k′ : ℕ} (m : ℕ) → m ≡ maskOf 64 (drop x flags) → x + 64 ≤ length flags
-        → Put ws ws′ i k k′ (chunkBoundaries left m carry x)
-        → Going left flags ws₀ i ws′ k′ (m / 2 ^ 63) (x + 64)
-    going-turn m e h p =
+    -- the cells so far, those of the next chunk and those of the rest are all of the line's
+    cells-then : (m : ℕ) → m ≡ maskOf 64 (drop x flags) → cells + ones m + nonzeroCells (drop (x + 64) flags) ≡ nonzeroCells flags
+    cells-then m e =
+        let q : nonzeroCells (drop 64 (drop x flags)) ≡ nonzeroCells (drop (x + 64) flags) = ap nonzeroCells (drop-drop 64 x flags) in
+        omega (arith, g .counted, chunk-cells m (drop x flags) e)
+
+    -- with the next chunk's the sum is small
+    pub going-sum : {n : ℕ} (m : ℕ) → m ≡ maskOf 64 (drop x flags) → n ≡ ones m → Room left flags ws₀ i → cells + n < 2147483647
+    going-sum m e o r = omega (arith, r .short, cells-then m e, cells-most flags)
+
+    -- the next chunk's boundaries are written, and its cells counted
+    pub going-turn : {ws′ : List ℕ} {k′ n : ℕ} (m : ℕ) → m ≡ maskOf 64 (drop x flags) → x + 64 ≤ length flags
+        → Put ws ws′ i k k′ (chunkBoundaries left m carry x) → n ≡ ones m
+        → Going left flags ws₀ i ws′ k′ (cells + n) (m / 2 ^ 63) (x + 64)
+    going-turn m e h p o =
         let t = mask-lt 64 (drop x flags) in
         let c : m / 2 ^ 63 < 2 = omega arith in
-        record { carried = c; inside = omega arith; rest = rest-put (chunkBoundaries left m carry x) _ (split m e) p }
+        record {
+          carried = c;
+          inside = omega arith;
+          counted = omega (arith, cells-then m e);
+          rest = rest-put (chunkBoundaries left m carry x) _ (split m e) p;
+        }
 
-    -- with the last chunk, which reaches past the line, all are written
+    -- with the last chunk, which reaches past the line, all are written and counted
     past : (m : ℕ) → m ≡ maskOf 64 (drop x flags) → length flags < x + 64
         → lineBoundaries left (nz (m / 2 ^ 63)) (x + 64) (drop (x + 64) flags) ≡ []
     unfolding nz
@@ -202,10 +222,17 @@ module _ {left : Bool} {flags : List Bool} {ws₀ : List ℕ} {i : ℕ} where
         ap₂ (λ (c : ℕ) (l : List Bool). lineBoundaries left (nz c) (x + 64) l) z (drop-of-length-le flags {i = x + 64} (omega arith))
         ∙ none-past left (x + 64)
 
-    pub going-end : {ws′ : List ℕ} {k′ : ℕ} (m : ℕ) → m ≡ maskOf 64 (drop x flags) → length flags < x + 64
-        → Put ws ws′ i k k′ (chunkBoundaries left m carry x) → Extracted left flags ws₀ ws′ i (k′ / 2)
-    going-end m e h p =
-        let o = rest-none (rest-same refl refl (past m e h) (rest-put (chunkBoundaries left m carry x) _ (split m e) p)) in
-        let n = length-boundaries (lineRuns left flags) in
-        let q = o .next in
-        record { counted = omega arith; written = o .written ∙ put-boundaries (lineRuns left flags) ws₀ i }
+    pub going-end : {ws′ : List ℕ} {k′ n : ℕ} (m : ℕ) → m ≡ maskOf 64 (drop x flags) → length flags < x + 64
+        → Put ws ws′ i k k′ (chunkBoundaries left m carry x) → n ≡ ones m
+        → Extracted left flags ws₀ ws′ i (record { runs = k′ / 2; cells = cells + n })
+    going-end m e h p o =
+        let r = rest-none (rest-same refl refl (past m e h) (rest-put (chunkBoundaries left m carry x) _ (split m e) p)) in
+        let s = length-boundaries (lineRuns left flags) in
+        let q = r .next in
+        let d : drop (x + 64) flags ≡ [] = drop-of-length-le flags {i = x + 64} (omega arith) in
+        let z : nonzeroCells (drop (x + 64) flags) ≡ 0 = ap nonzeroCells d ∙ cells-none in
+        record {
+          counted = omega arith;
+          total = omega (arith, cells-then m e);
+          written = r .written ∙ put-boundaries (lineRuns left flags) ws₀ i;
+        }

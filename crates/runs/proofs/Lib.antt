@@ -2,6 +2,7 @@
 pub mod PutLaws
 pub mod BoundaryLaws
 pub mod MaskLaws
+pub mod ChunkCellLaws
 pub mod ChunkLaws
 pub mod CopyLaws
 pub mod NzLaws

@@ -12,6 +12,7 @@ use lib.Seq.{getD-set-same, getD-set-other}
 use Rattle.frame.specs.Memory.{stride}
 use Rattle.frame.specs.Words.{startAt, endAt}
 use Rattle.frame.specs.Runs.{Run, lineRuns}
+use Rattle.runs.specs.declared.Counts.{Counts}
 use Rattle.runs.specs.Extract.{putRuns, Extracted}
 
 -- one run written
@@ -74,6 +75,6 @@ put-end (r ∷ rs) ws i (suc q) d h f =
 
 -- ---- of a whole line
 
-pub extracted-long : {left : Bool} {flags : List Bool} {ws ws′ : List ℕ} {i n : ℕ} → Extracted left flags ws ws′ i n
+pub extracted-long : {left : Bool} {flags : List Bool} {ws ws′ : List ℕ} {i : ℕ} {c : Counts} → Extracted left flags ws ws′ i c
     → length ws′ ≡ length ws
 extracted-long {left} {flags} {ws} {i = i} e = ap length (e .written) ∙ length-put (lineRuns left flags) ws i

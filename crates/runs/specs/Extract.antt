@@ -7,7 +7,8 @@ use Prim.Native.Nat.{ℕ, _+_, _*_, _≤_, _<_}
 use lib.ListN.{length, set}
 use Rattle.frame.specs.Memory.{stride}
 use Rattle.frame.specs.Words.{startAt, endAt}
-use Rattle.frame.specs.Runs.{Run, lineRuns}
+use Rattle.frame.specs.Runs.{nonzeroCells, Run, lineRuns}
+use Rattle.runs.specs.declared.Counts.{Counts}
 
 -- the words after the runs rs are written from place i on, of each its start and its end; every other word stands
 unfoldable pub putRuns : List ℕ → ℕ → List Run → List ℕ
@@ -19,7 +20,8 @@ pub record Room (left : Bool) (flags : List Bool) (ws : List ℕ) (at : ℕ) : T
   pub short : length flags < 2147483647
   pub room : at + stride * length (lineRuns left flags) ≤ length ws
 
--- what it does: n is the count of the line's runs, and they are written from place `at` on
-pub record Extracted (left : Bool) (flags : List Bool) (ws ws′ : List ℕ) (at n : ℕ) : Type 0 where
-  pub counted : n ≡ length (lineRuns left flags)
+-- what it does: it counts the line's runs and its nonzero cells, and the runs are written from place `at` on
+pub record Extracted (left : Bool) (flags : List Bool) (ws ws′ : List ℕ) (at : ℕ) (c : Counts) : Type 0 where
+  pub counted : c .runs ≡ length (lineRuns left flags)
+  pub total : c .cells ≡ nonzeroCells flags
   pub written : ws′ ≡ putRuns ws at (lineRuns left flags)

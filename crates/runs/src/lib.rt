@@ -1,7 +1,7 @@
 // The runs of a line, for each kind of cell.
 //
-// Promised of each extract_line (specs/Extract.antt): the answer is the count of the line's runs, as `lineRuns` lists them, and
-// the start and the end of each are written to the lent words, in order, STRIDE words apart from place `at` on. Every other word stands.
+// Promised of each extract_line (specs/Extract.antt): the answer counts the line's runs, as `lineRuns` lists them, and its nonzero cells;
+// each run's start and end are written to the lent words, in order, STRIDE words apart from place `at` on. Every other word stands.
 //
 // A line is taken by chunks of 64 cells, each by a mask with a bit for each cell. A kind of cell differs only in how its mask is made.
 ghost use mathlib.Core.Path.{_≡_};
@@ -9,16 +9,22 @@ ghost use mathlib.Core.Bool.{Bool};
 ghost use mathlib.Core.List.{List, map};
 ghost use Prim.Native.Nat.{_+_, _<_};
 ghost use lib.ListN.{length, drop, set};
-ghost use lib.Count.{trailingZeros};
+ghost use lib.Count.{ones, trailingZeros};
 ghost use Rattle.frame.specs.Kinds.{nz, nzℤ, nzF};
 ghost use Rattle.runs.specs.Extract.{Room, Extracted};
 ghost use Rattle.runs.specs.Masks.{maskOf, Part, Shows, Weighs, Eight};
 ghost use Rattle.runs.specs.Boundaries.{boundaryAt, BoundaryRoom, Put, Next, Took, places, alone, chunkBoundaries};
 
+// How many runs a line has, or several lines, and how many nonzero cells.
+pub struct Counts {
+    pub runs: usize,
+    pub cells: usize,
+}
+
 // ---- lines of each kind. With `left` (the left byte is nonzero) each maximal stretch of nonzero cells is a run, else each such cell.
 // Of the last chunk fewer than 64 cells are in the line, or none: a zero follows them, so that a run that reaches the line's end ends there
 
-pub fn extract_line_u8(line: &[u8], left: bool, words: &mut [u32], at: usize) -> usize
+pub fn extract_line_u8(line: &[u8], left: bool, words: &mut [u32], at: usize) -> Counts
     requires { ⌜ Room left (map nz (now line)) (now words) at ⌝ }
     ensures { λ r. ⌜ Extracted left (map nz (now (line .entry))) (now (words .entry)) (now (words .exit)) at r ⌝ }
 {
@@ -26,76 +32,96 @@ pub fn extract_line_u8(line: &[u8], left: bool, words: &mut [u32], at: usize) ->
 }
 
 // Bytes, as the Rust's; here with the left byte zero too.
-pub fn extract_bytes(line: &[u8], left: bool, words: &mut [u32], at: usize) -> usize
+pub fn extract_bytes(line: &[u8], left: bool, words: &mut [u32], at: usize) -> Counts
     requires { ⌜ Room left (map nz (now line)) (now words) at ⌝ }
     ensures { λ r. ⌜ Extracted left (map nz (now (line .entry))) (now (words .entry)) (now (words .exit)) at r ⌝ }
 {
     let n = line.len();
     let mut k: usize = 0;
+    let mut cells: usize = 0;
     let mut carry: u64 = 0;
     let mut x: usize = 0;
     while n - x >= 64 {
         let m = mask_u8(line, x, 64);
         k = chunk_boundaries(words, at, k, Chunk { m, carry }, left, x);
+        cells += chunk_cells(Chunk { m, carry });
         carry = m >> 63;
         x += 64;
     }
     let m = mask_u8(line, x, n - x);
-    chunk_boundaries(words, at, k, Chunk { m, carry }, left, x) / 2
+    Counts {
+        runs: chunk_boundaries(words, at, k, Chunk { m, carry }, left, x) / 2,
+        cells: cells + chunk_cells(Chunk { m, carry }),
+    }
 }
 
-pub fn extract_line_u16(line: &[u16], left: bool, words: &mut [u32], at: usize) -> usize
+pub fn extract_line_u16(line: &[u16], left: bool, words: &mut [u32], at: usize) -> Counts
     requires { ⌜ Room left (map nz (now line)) (now words) at ⌝ }
     ensures { λ r. ⌜ Extracted left (map nz (now (line .entry))) (now (words .entry)) (now (words .exit)) at r ⌝ }
 {
     let n = line.len();
     let mut k: usize = 0;
+    let mut cells: usize = 0;
     let mut carry: u64 = 0;
     let mut x: usize = 0;
     while n - x >= 64 {
         let m = mask_u16(line, x, 64);
         k = chunk_boundaries(words, at, k, Chunk { m, carry }, left, x);
+        cells += chunk_cells(Chunk { m, carry });
         carry = m >> 63;
         x += 64;
     }
     let m = mask_u16(line, x, n - x);
-    chunk_boundaries(words, at, k, Chunk { m, carry }, left, x) / 2
+    Counts {
+        runs: chunk_boundaries(words, at, k, Chunk { m, carry }, left, x) / 2,
+        cells: cells + chunk_cells(Chunk { m, carry }),
+    }
 }
 
-pub fn extract_line_i16(line: &[i16], left: bool, words: &mut [u32], at: usize) -> usize
+pub fn extract_line_i16(line: &[i16], left: bool, words: &mut [u32], at: usize) -> Counts
     requires { ⌜ Room left (map nzℤ (now line)) (now words) at ⌝ }
     ensures { λ r. ⌜ Extracted left (map nzℤ (now (line .entry))) (now (words .entry)) (now (words .exit)) at r ⌝ }
 {
     let n = line.len();
     let mut k: usize = 0;
+    let mut cells: usize = 0;
     let mut carry: u64 = 0;
     let mut x: usize = 0;
     while n - x >= 64 {
         let m = mask_i16(line, x, 64);
         k = chunk_boundaries(words, at, k, Chunk { m, carry }, left, x);
+        cells += chunk_cells(Chunk { m, carry });
         carry = m >> 63;
         x += 64;
     }
     let m = mask_i16(line, x, n - x);
-    chunk_boundaries(words, at, k, Chunk { m, carry }, left, x) / 2
+    Counts {
+        runs: chunk_boundaries(words, at, k, Chunk { m, carry }, left, x) / 2,
+        cells: cells + chunk_cells(Chunk { m, carry }),
+    }
 }
 
-pub fn extract_line_f32(line: &[f32], left: bool, words: &mut [u32], at: usize) -> usize
+pub fn extract_line_f32(line: &[f32], left: bool, words: &mut [u32], at: usize) -> Counts
     requires { ⌜ Room left (map nzF (now line)) (now words) at ⌝ }
     ensures { λ r. ⌜ Extracted left (map nzF (now (line .entry))) (now (words .entry)) (now (words .exit)) at r ⌝ }
 {
     let n = line.len();
     let mut k: usize = 0;
+    let mut cells: usize = 0;
     let mut carry: u64 = 0;
     let mut x: usize = 0;
     while n - x >= 64 {
         let m = mask_f32(line, x, 64);
         k = chunk_boundaries(words, at, k, Chunk { m, carry }, left, x);
+        cells += chunk_cells(Chunk { m, carry });
         carry = m >> 63;
         x += 64;
     }
     let m = mask_f32(line, x, n - x);
-    chunk_boundaries(words, at, k, Chunk { m, carry }, left, x) / 2
+    Counts {
+        runs: chunk_boundaries(words, at, k, Chunk { m, carry }, left, x) / 2,
+        cells: cells + chunk_cells(Chunk { m, carry }),
+    }
 }
 
 // ---- the masks of each kind: of the chunk from x on, n of whose cells are in the line; those past it count as zero
@@ -271,13 +297,26 @@ fn mask8(t: [u8; 64], j: usize) -> u8
     s
 }
 
-// ---- boundaries: the starts and ends of runs one after the other. Boundary 2i is run i's start, 2i + 1 its end
+// ---- chunks
 
 // The mask of 64 cells, and the bit of the cell before them.
 struct Chunk {
     m: u64,
     carry: u64,
 }
+
+// How many cells of a chunk are nonzero. Without an edge all are as the cell before them, which takes less time than counting bits.
+fn chunk_cells(c: Chunk) -> usize
+    requires { ⌜ c .carry < 2 ⌝ }
+    ensures { λ r. ⌜ r ≡ ones (c .m) ⌝ }
+{
+    if c.m ^ ((c.m << 1) | c.carry) == 0 {
+        return 64 * c.carry as usize;
+    }
+    u64::count_ones(c.m) as usize
+}
+
+// ---- boundaries: the starts and ends of runs one after the other. Boundary 2i is run i's start, 2i + 1 its end
 
 // Writes the boundaries of the chunk from x on; the first is boundary k. Answers the next boundary's number.
 fn chunk_boundaries(words: &mut [u32], at: usize, k: usize, c: Chunk, left: bool, x: usize) -> usize

@@ -1,196 +1,201 @@
--- The lines, one by one: what the pass has found of those before line i, and what it answers.
+-- What the passes find decides whether the words are sound.
 -- Assumes nothing.
-use mathlib.Core.Path.{_≡_, refl, sym, ap, _∙_, subst}
+use mathlib.Core.Path.{_≡_, refl, sym, ap, _∙_}
 use mathlib.Core.Bool.{Bool, true, false, not, _&&_, _||_, true≢false}
 use mathlib.Core.List.{List}
-use Prim.Native.Nat.{ℕ, suc, _+_, _*_, _≤_, _<_}
-use native.Mathlib.Decide.{ℕ-discrete, le-ind}
-use native.Mathlib.Numerals.{add-one}
-use native.Mathlib.Nat.{le-refl, le-trans, suc-mul, mul-le-mul-right}
+use Prim.Native.Nat.{ℕ, zero, suc, _+_, _-_, _*_, _≤_, _<_}
+use native.Mathlib.Nat.{le-refl, mul-le-mul-right}
 use native.Mathlib.Omega.{arith}
-use borrow.Author.Tests.{eqb-true, eq-eqb, le-ltb, ltb-true, ltb-false}
-use lib.Dec.{eqb, ltb}
-use Rattle.groups.proofs.BoolLaws.{and-true, and-left, and-right, bool-same}
-use Rattle.groups.proofs.CountLaws.{count-none, count-most}
-use Rattle.frame.specs.Runs.{gapOf}
+use borrow.Author.Tests.{eqb-true, eq-eqb, not-true, not-false, leb-false, lt-leb, ltb-false, le-ltb}
+use lib.Dec.{eqb, ltb, leb}
+use Rattle.groups.specs.Groups.{count}
+use Rattle.groups.proofs.BoolLaws.{or-left, or-right, bool-same}
+use Rattle.groups.proofs.CountLaws.{count-none}
+use Rattle.frame.specs.declared.Figures.{Figures}
+use Rattle.frame.specs.Runs.{Run, gapOf, runLengths}
 use Rattle.frame.specs.Memory.{mostRuns}
-use Rattle.frame.specs.Words.{lineStart, runStart, runEnd, parentOf}
-use Rattle.forest.specs.Forest.{own, nonRoots}
+use Rattle.frame.specs.Words.{lineStart, parentOf, storedRun}
+use Rattle.forest.proofs.ForestLaws.{roots-others}
+use Rattle.sound.specs.declared.Lines.{Lines}
+use Rattle.sound.specs.declared.Runs.{Runs}
 use Rattle.sound.specs.Stored.{WordsSound, wordsSound, PassReady}
-use Rattle.sound.specs.Lines.{LineInPass, RunsSound}
+use Rattle.sound.specs.Passes.{falls, firstFalls, LinesSound, LinesFound, wrongRun, Nonempty, RunsFound}
+use Rattle.sound.proofs.TestLaws.{or-false}
+use Rattle.sound.proofs.FallLaws.{count-stays, stays-none, same-others, others-same}
+use Rattle.sound.proofs.LineLaws.{Ordered, within, line-few, line-lengths, starts-rise, by-lines, all-few, all-lengths}
+use Rattle.sound.proofs.LineLaws.{lengths-single, single-lengths}
 use Rattle.sound.proofs.StoredLaws.{words-right, right-words}
-use Rattle.sound.proofs.LineLaws.{or-false}
 
-module _ (L w : ℕ) (left : Bool) (ws : List ℕ) where
-  abbrev start : ℕ → ℕ
-  start = runStart L ws
+-- five tests joined by `and`
+and₅ : (a b c d e : Bool) → ((((a && b) && c) && d) && e) ≡ true
+    → (a ≡ true) × (b ≡ true) × (c ≡ true) × (d ≡ true) × (e ≡ true)
+and₅ true true true true e h = (refl, refl, refl, refl, h)
+and₅ true true true false e h = absurd (true≢false (sym h))
+and₅ true true false d e h = absurd (true≢false (sym h))
+and₅ true false c d e h = absurd (true≢false (sym h))
+and₅ false b c d e h = absurd (true≢false (sym h))
 
-  abbrev end : ℕ → ℕ
-  end = runEnd L ws
+module _ (L w : ℕ) (left : Bool) (fed : ℕ) (figures : Figures) (ws : List ℕ) where
+  abbrev runs : ℕ
+  runs = figures .runs
+
+  abbrev first : ℕ → ℕ
+  first = lineStart ws
+
+  abbrev run : ℕ → Run
+  run = storedRun L ws
+
+  abbrev falling : ℕ → Bool
+  falling = falls left run
 
   abbrev parent : ℕ → ℕ
   parent = parentOf L ws
 
-  abbrev Words : ℕ → ℕ → ℕ → Type 0
-  Words fed runs joins = WordsSound L w left fed runs joins ws
+  abbrev Words : Type 0
+  Words = WordsSound L w left fed figures ws
 
-  abbrev Runs : ℕ → ℕ → Type 0
-  Runs a b = RunsSound L w left a b ws
+  abbrev test : Bool
+  test = wordsSound L w left fed figures ws
 
-  -- no start below an earlier one
-  rising-to : {fed runs joins : ℕ} → Words fed runs joins → (m n : ℕ) → m ≤ n → n ≤ fed → lineStart ws m ≤ lineStart ws n
-  rising-to {fed} W m = le-ind (λ n. n ≤ fed → lineStart ws m ≤ lineStart ws n) (λ h. le-refl _)
-      (λ n k below h. le-trans (below (omega arith)) (W .rising n h))
-
-  -- the runs of a line of sound words
-  line-runs : {fed runs joins : ℕ} → Words fed runs joins → (i : ℕ) → i < fed → Runs (lineStart ws i) (lineStart ws (suc i))
-  line-runs {fed} {runs} W i l = record {
-    nonempty = λ r m n. W .nonempty r (low r n);
-    inside = λ r m n. W .inside r (low r n);
-    ordered = λ r m n. W .ordered i l r (low r (omega arith)) m n;
-    single = λ e r m n. W .single e r (low r n);
-    parents = λ r m n. W .parents r (low r n);
-  }
+  refused : (Words → ⊥) → false ≡ test
+  refused h = go test refl
     where
-      low : (r : ℕ) → r < lineStart ws (suc i) → r < runs
-      low r n = omega (arith, rising-to W (suc i) fed l (le-refl fed), W .last)
+      go : (t : Bool) → test ≡ t → false ≡ t
+      go true t = absurd (h (words-right L w left fed figures ws t))
+      go false t = refl
 
-  -- sound lines and one more
-  line-more : {i a k b : ℕ} (j : ℕ) → Words i a k → b ≡ lineStart ws (suc i) → a ≤ b → b ≤ a + mostRuns left w → Runs a b
-      → j + nonRoots parent a ≡ nonRoots parent b → Words (suc i) b (k + j)
-  line-more {i} {a} {k} {b} j W is-b up room R count = record {
-    first = W .first;
-    rising = λ ℓ l. each (λ ℓ. lineStart ws ℓ ≤ lineStart ws (suc ℓ)) (W .rising) (omega (arith, W .last)) ℓ l (ℕ-discrete ℓ i);
-    last = sym is-b;
-    room =
-        λ ℓ l. each (λ ℓ. lineStart ws (suc ℓ) ≤ lineStart ws ℓ + mostRuns left w) (W .room) (omega (arith, W .last)) ℓ l (ℕ-discrete ℓ i);
-    nonempty = λ r l. both (λ r. start r < end r) (W .nonempty) (R .nonempty) r l (ltb r a) refl;
-    inside = λ r l. both (λ r. end r ≤ w) (W .inside) (R .inside) r l (ltb r a) refl;
-    ordered = λ ℓ l r m p q. near ℓ l r p q (ℕ-discrete ℓ i);
-    single = λ e r l. both (λ r. end r ≤ suc (start r)) (W .single e) (R .single e) r l (ltb r a) refl;
-    parents = λ r l. both (λ r. parent r ≤ r) (W .parents) (R .parents) r l (ltb r a) refl;
-    join-count = omega (arith, W .join-count);
-  }
+  -- the test before the passes, with the most runs of a line as the code has it
+  pub start-wrong : {most : ℕ} → most ≡ mostRuns left w → (not (eqb (first 0) 0) || ltb (fed * most) runs) ≡ true → false ≡ test
+  start-wrong {most} is-most t = refused (λ W. true≢false (sym t ∙ right W))
     where
-      -- what holds of the lines before i, and of i
-      each : (F : ℕ → Type 0) → ((ℓ : ℕ) → ℓ < i → F ℓ) → F i → (ℓ : ℕ) → ℓ < suc i → Dec (ℓ ≡ i) → F ℓ
-      each F f g ℓ l (yes e) = subst F (sym e) g
-      each F f g ℓ l (no e) = f ℓ (omega arith)
+      right : Words → (not (eqb (first 0) 0) || ltb (fed * most) runs) ≡ false
+      right W =
+          let few = all-few first (mostRuns left w) fed (W .first) (W .room) in
+          simp (eq-eqb (first 0) 0 (W .first), le-ltb (fed * most) runs (omega (arith, W .last, ap (λ (x : ℕ). fed * x) is-most))) refl
 
-      -- what holds of the runs before a, and of those to before b
-      both : (F : ℕ → Type 0) → ((r : ℕ) → r < a → F r) → ((r : ℕ) → a ≤ r → r < b → F r) → (r : ℕ) → r < b → (t : Bool) → ltb r a ≡ t → F r
-      both F f g r l true t = f r (ltb-true r a t)
-      both F f g r l false t = g r (ltb-false r a t) l
+  -- every line is in order
+  abbrev InOrder : Type 0
+  InOrder = (ℓ : ℕ) → ℓ < fed → Ordered run left (first ℓ) (first (suc ℓ))
 
-      near : (ℓ : ℕ) → ℓ < suc i → (r : ℕ) → lineStart ws ℓ ≤ r → suc r < lineStart ws (suc ℓ) → Dec (ℓ ≡ i)
-          → end r + gapOf left ≤ start (suc r)
-      near ℓ l r p q (yes e) =
-          let p' : lineStart ws i ≤ r = subst (λ (x : ℕ). lineStart ws x ≤ r) e p in
-          let q' : suc r < lineStart ws (suc i) = subst (λ (x : ℕ). suc r < lineStart ws (suc x)) e q in
-          R .ordered r (omega (arith, W .last)) (omega arith)
-      near ℓ l r p q (no e) = W .ordered ℓ (omega arith) r (omega (arith, rising-to W (suc ℓ) i (omega arith) (le-refl i), W .last)) p q
-
-  -- ---- the pass
-
-  -- the first i lines are sound, with a runs, k of them not their own parents
-  pub record LinesTo (fed i a k : ℕ) : Type 0 where
-    pub upto : i ≤ fed
-    pub sound : Words i a k
-    pub few : a ≤ i * mostRuns left w
-
-  pub lines-none : (fed : ℕ) → lineStart ws 0 ≡ 0 → LinesTo fed 0 0 0
-  lines-none fed h = record {
-    upto = omega arith;
-    sound = record {
-      first = h;
-      rising = λ ℓ l. absurd (omega arith);
-      last = h;
-      room = λ ℓ l. absurd (omega arith);
-      nonempty = λ r l. absurd (omega arith);
-      inside = λ r l. absurd (omega arith);
-      ordered = λ ℓ l. absurd (omega arith);
-      single = λ e r l. absurd (omega arith);
-      parents = λ r l. absurd (omega arith);
-      join-count = unfold nonRoots in sym (count-none (λ r. not (own parent r)));
-    };
-    few = omega arith;
+  words-lines : Words → LinesSound L ws w fed runs
+  words-lines W = record {
+    rising = W .rising;
+    last = W .last;
+    inside = λ ℓ l r m e. W .inside r (omega (arith, starts-rise first fed (W .rising) (suc ℓ) fed l (le-refl fed), W .last));
   }
 
-  pub joins-few : {fed i a k : ℕ} → LinesTo fed i a k → k ≤ a
-  joins-few {fed} {i} {a} {k} T = unfold nonRoots in omega (arith, T .sound .join-count, count-most (λ r. not (own parent r)) a)
+  words-order : Words → InOrder
+  words-order W ℓ l =
+      let up = starts-rise first fed (W .rising) (suc ℓ) fed l (le-refl fed) in
+      record {
+        nonempty = λ r m n. W .nonempty r (omega (arith, W .last));
+        apart = λ r m n. W .ordered ℓ l r (omega (arith, W .last)) m n;
+      }
 
-  -- line i, whose runs are a to before `next`, with the most runs of a line as the pass has it
-  module _ {most : ℕ} (is-most : most ≡ mostRuns left w) {fed i a k : ℕ} (T : LinesTo fed i a k) (l : i < fed) where
-    abbrev next : ℕ
-    next = lineStart ws (i + 1)
+  module _ (P : PassReady L w left fed ws) {lines : Lines} (F : LinesFound L ws w left fed runs lines) where
+    pub lines-wrong : not (lines .sound) ≡ true → false ≡ test
+    lines-wrong n = refused (λ W. F .wrong (not-true (lines .sound) n) (words-lines W))
 
-    abbrev wrong : Bool
-    wrong = ltb next a || ltb (a + most) next
+    module _ (begins : first 0 ≡ 0) (n : not (lines .sound) ≡ false) {found : Runs} (G : RunsFound L ws left runs found) where
+      h : lines .sound ≡ true
+      h = not-false (lines .sound) n
 
-    is-next : next ≡ lineStart ws (suc i)
-    is-next = ap (lineStart ws) (add-one i)
+      S : LinesSound L ws w fed runs
+      S = F .right h
 
-    rises : wrong ≡ false → (a ≤ next) × (next ≤ a + mostRuns left w)
-    rises h =
-        let p = or-false (ltb next a) (ltb (a + most) next) h in (ltb-false _ _ (p .0), omega (arith, ltb-false (a + most) next (p .1)))
+      -- the sum of the lengths is below 2^32
+      exact : Nonempty L ws runs → InOrder → found .cells ≡ runLengths run runs
+      exact N O =
+          let most : runLengths run (first fed) ≤ fed * w = all-lengths first run w fed begins
+          (λ ℓ l. line-lengths run left (O ℓ l) w (S .rising ℓ l) (S .inside ℓ l)) in
+          omega (arith, G .summed N, ap (runLengths run) (S .last), mul-le-mul-right w (P .within), P .small)
 
-    next-few : wrong ≡ false → next ≤ (i + 1) * mostRuns left w
-    next-few h = omega (arith, rises h .1, T .few, ap (λ (x : ℕ). x * mostRuns left w) (add-one i) ∙ suc-mul i (mostRuns left w))
+      -- what is found of sound words
+      module _ (W : Words) where
+        none-wrong : found .wrong ≡ 0
+        none-wrong = G .wrong ∙ count-stays (wrongRun L ws) 0 runs (omega arith) (λ r m l. simp (
+          lt-leb (run r .end) (run r .start) (W .nonempty r l),
+          le-ltb r (parent r) (W .parents r l),
+        ) refl) ∙ count-none (wrongRun L ws)
 
-    pub line-wrong : {runs joins : ℕ} → wrong ≡ true → Words fed runs joins → ⊥
-    line-wrong h W = true≢false (sym h ∙ simp (
-      le-ltb next a (omega (arith, is-next, W .rising i l, T .sound .last)),
-      le-ltb (a + most) next (omega (arith, is-next, W .room i l, T .sound .last)),
-    ) refl)
+        others : (ℓ : ℕ) → ℓ < fed → (r : ℕ) → first ℓ < r → r < first (suc ℓ) → falling r ≡ false
+        unfolding falls
+        others ℓ l zero m n = absurd (omega arith)
+        others ℓ l (suc r) m n =
+            le-ltb (run (suc r) .start) (run r .end + gapOf left) (words-order W ℓ l .apart r (omega arith) n)
 
-    pub line-ready : wrong ≡ false → PassReady L w left fed ws → LineInPass L w a next ws
-    line-ready h P =
-        let m : i + 1 ≤ L = omega (arith, P .within) in
-        record {
-          rising = rises h .0;
-          memory = omega (arith, next-few h, mul-le-mul-right (mostRuns left w) m, P .memory);
-          short =
-              P .short;
+        same-falls : found .falls ≡ lines .falls
+        same-falls = G .fallen (W .nonempty) ∙ ap (count falling) (sym (S .last)) ∙ others-same falling first fed begins (S .rising) others
+            ∙ sym (F .counted h)
+
+        same-joins : runs - found .roots ≡ figures .joins
+        same-joins = omega (arith, G .rooted, W .join-count, roots-others parent runs)
+
+        sum : found .cells ≡ runLengths run runs
+        sum = exact (W .nonempty) (words-order W)
+
+        one-each : left ≡ false → found .cells ≡ runs
+        one-each e = sum ∙ single-lengths run runs (W .nonempty) (W .single e)
+
+      -- and which words it is found of
+      module _ (none : found .wrong ≡ 0) (same : found .falls ≡ lines .falls) where
+        right : (r : ℕ) → r < runs → (leb (run r .end) (run r .start) ≡ false) × (ltb r (parent r) ≡ false)
+        right r l = or-false _ _ (stays-none (wrongRun L ws) 0 runs r (omega (arith, G .wrong)) (omega arith) l)
+
+        nonempty : Nonempty L ws runs
+        nonempty r l = leb-false (run r .end) (run r .start) (right r l .0)
+
+        in-order : InOrder
+        in-order ℓ l = record {
+          nonempty = λ r m n. nonempty r (omega (arith, starts-rise first fed (S .rising) (suc ℓ) fed l (le-refl fed), S .last));
+          apart = λ r m n. ltb-false (run (suc r) .start) (run r .end + gapOf left)
+              (unfold falls in same-others falling first fed (S .rising) counts ℓ l (suc r) (omega arith) n);
+        }
+          where
+            counts : count falling (first fed) ≤ count (firstFalls falling first) fed
+            counts = omega (arith, ap (count falling) (S .last), G .fallen nonempty, F .counted h)
+
+        found-words : runs - found .roots ≡ figures .joins → found .cells ≡ figures .cells → (left ≡ false → found .cells ≡ runs) → Words
+        found-words joins cells one = record {
+          first = begins;
+          rising = S .rising;
+          last = S .last;
+          room = λ ℓ l. line-few run left (in-order ℓ l) w (S .rising ℓ l) (S .inside ℓ l);
+          nonempty = nonempty;
+          inside = λ r l. by-lines first (λ r. run r .end ≤ w) fed begins
+              (λ ℓ m. within run left (in-order ℓ m) w (S .rising ℓ m) (S .inside ℓ m)) r (omega (arith, S .last));
+          ordered = λ ℓ l r m. in-order ℓ l .apart r;
+          single = λ e. lengths-single run runs nonempty (sym (exact nonempty in-order) ∙ one e);
+          parents = λ r l. ltb-false r (parent r) (right r l .1);
+          join-count = omega (arith, G .rooted, roots-others parent runs);
+          total = sym cells ∙ exact nonempty in-order;
         }
 
-    pub line-unsound : {runs joins : ℕ} → (Runs a next → ⊥) → Words fed runs joins → ⊥
-    line-unsound h W =
-        h (subst (λ (x : ℕ). Runs x next) (T .sound .last) (subst (λ (x : ℕ). Runs (lineStart ws i) x) (sym is-next) (line-runs W i l)))
+      -- hence the answer
+      abbrev same-all : Bool
+      same-all = (((eqb (found .wrong) 0 && eqb (found .falls) (lines .falls)) && eqb (runs - found .roots) (figures .joins))
+          && eqb (found .cells) (figures .cells)) && (left || eqb (found .cells) runs)
 
-    pub lines-more : (j : ℕ) → wrong ≡ false → Runs a next × (j + nonRoots parent a ≡ nonRoots parent next)
-        → LinesTo fed (i + 1) next (k + j)
-    lines-more j h R = record {
-      upto = omega arith;
-      sound = subst (λ (x : ℕ). Words x next (k + j)) (sym (add-one i))
-          (line-more j (T .sound) is-next (rises h .0) (rises h .1) (R .0) (R .1));
-      few = next-few h;
-    }
+      pub answer : same-all ≡ test
+      answer = bool-same same-all test to from
+        where
+          to : same-all ≡ true → test ≡ true
+          to t =
+              let p = and₅ (eqb (found .wrong) 0) (eqb (found .falls) (lines .falls)) (eqb (runs - found .roots) (figures .joins))
+              (eqb (found .cells) (figures .cells)) (left || eqb (found .cells) runs) t in
+              right-words L w left fed figures ws (found-words (eqb-true _ _ (p .0)) (eqb-true _ _ (p .1)) (eqb-true _ _ (p .2))
+              (eqb-true _ _ (p .3)) (λ e. eqb-true (found .cells) runs (rw e at (p .4))))
 
-  -- ---- its answer
+          lone : Words → (t : Bool) → left ≡ t → (left || eqb (found .cells) runs) ≡ true
+          lone W true e = or-left left (eqb (found .cells) runs) e
+          lone W false e = or-right left (eqb (found .cells) runs) (eq-eqb (found .cells) runs (one-each W e))
 
-  module _ (fed runs joins : ℕ) where
-    pub answer-false : (Words fed runs joins → ⊥) → false ≡ wordsSound L w left fed runs joins ws
-    answer-false h = go (wordsSound L w left fed runs joins ws) refl
-      where
-        go : (t : Bool) → wordsSound L w left fed runs joins ws ≡ t → false ≡ t
-        go true t = absurd (h (words-right L w left fed runs joins ws t))
-        go false t = refl
-
-    -- after the last line
-    pub answer : {i a k : ℕ} → LinesTo fed i a k → fed ≤ i → (eqb a runs && eqb k joins) ≡ wordsSound L w left fed runs joins ws
-    answer {i} {a} {k} T l = bool-same (eqb a runs && eqb k joins) (wordsSound L w left fed runs joins ws)
-        (λ h. right-words L w left fed runs joins ws
-        (to (eqb-true a runs (and-left (eqb a runs) (eqb k joins) h)) (eqb-true k joins (and-right (eqb a runs) (eqb k joins) h))))
-        (λ h. from (words-right L w left fed runs joins ws h))
-      where
-        S : Words fed a k
-        S = let e : i ≡ fed = omega (arith, T .upto) in subst (λ (x : ℕ). Words x a k) e (T .sound)
-
-        to : a ≡ runs → k ≡ joins → Words fed runs joins
-        to e f = subst (λ (x : ℕ). Words fed x joins) e (subst (λ (x : ℕ). Words fed a x) f S)
-
-        from : Words fed runs joins → (eqb a runs && eqb k joins) ≡ true
-        from W =
-            let e : a ≡ runs = sym (S .last) ∙ W .last in
-            let f : k ≡ joins = S .join-count ∙ (ap (nonRoots parent) e ∙ sym (W .join-count)) in
-            and-true (eqb a runs) (eqb k joins) (eq-eqb a runs e) (eq-eqb k joins f)
+          from : test ≡ true → same-all ≡ true
+          from t =
+              let W = words-right L w left fed figures ws t in
+              simp (
+                eq-eqb (found .wrong) 0 (none-wrong W),
+                eq-eqb (found .falls) (lines .falls) (same-falls W),
+                eq-eqb (runs - found .roots) (figures .joins) (same-joins W),
+                eq-eqb (found .cells) (figures .cells) (sum W ∙ sym (W .total)),
+              ) (lone W left refl)

@@ -10,12 +10,16 @@ use borrow.Author.Tests.{eqb-true, eq-eqb, leb-true, leb-false, le-leb, ltb-true
 use lib.Dec.{ltb, leb}
 use Rattle.groups.proofs.BoolLaws.{or-left, or-right, or-cases}
 use Rattle.frame.specs.Lists.{all}
+use Rattle.frame.specs.declared.Figures.{Figures}
 use Rattle.frame.specs.Runs.{gapOf}
 use Rattle.frame.specs.Words.{lineStart, runStart, runEnd}
 use Rattle.frame.proofs.ListLaws.{all-at, at-all, every-at, every-more, every-none}
 use Rattle.sound.specs.Stored.{WordsSound, wordsSound}
 
-module _ (L w : ℕ) (left : Bool) (fed runs joins : ℕ) (ws : List ℕ) where
+module _ (L w : ℕ) (left : Bool) (fed : ℕ) (figures : Figures) (ws : List ℕ) where
+  abbrev runs : ℕ
+  runs = figures .runs
+
   abbrev start : ℕ → ℕ
   start = runStart L ws
 
@@ -33,7 +37,7 @@ module _ (L w : ℕ) (left : Bool) (fed runs joins : ℕ) (ws : List ℕ) where
   abbrev all-single : Bool
   all-single = all (λ r. leb (end r) (suc (start r))) runs
 
-  pub words-right : wordsSound L w left fed runs joins ws ≡ true → WordsSound L w left fed runs joins ws
+  pub words-right : wordsSound L w left fed figures ws ≡ true → WordsSound L w left fed figures ws
   unfolding wordsSound
   words-right h = record {
     first = eqb-true _ _ (every-at _ 0 h);
@@ -46,6 +50,7 @@ module _ (L w : ℕ) (left : Bool) (fed runs joins : ℕ) (ws : List ℕ) where
     single = λ e r l. leb-true _ _ (all-at _ runs r (lone e (or-cases left all-single (every-at _ 7 h))) l);
     parents = λ r l. leb-true _ _ (all-at _ runs r (every-at _ 8 h) l);
     join-count = eqb-true _ _ (every-at _ 9 h);
+    total = eqb-true _ _ (every-at _ 10 h);
   }
     where
       near : (ℓ r : ℕ) → lineStart ws ℓ ≤ r → suc r < lineStart ws (suc ℓ) → (beside ℓ r ≡ true) ⊎ (apart r ≡ true)
@@ -61,7 +66,7 @@ module _ (L w : ℕ) (left : Bool) (fed runs joins : ℕ) (ws : List ℕ) where
       lone e (inl k) = absurd (true≢false (sym k ∙ e))
       lone e (inr k) = k
 
-  pub right-words : WordsSound L w left fed runs joins ws → wordsSound L w left fed runs joins ws ≡ true
+  pub right-words : WordsSound L w left fed figures ws → wordsSound L w left fed figures ws ≡ true
   unfolding wordsSound
   right-words S =
       every-more _ _ (eq-eqb _ _ (S .first))
@@ -75,7 +80,8 @@ module _ (L w : ℕ) (left : Bool) (fed runs joins : ℕ) (ws : List ℕ) where
       (every-more _ _ (lone left refl)
       (every-more _ _ (at-all _ runs (λ r l. le-leb _ _ (S .parents r l)))
       (every-more _ _ (eq-eqb _ _ (S .join-count))
-      every-none)))))))))
+      (every-more _ _ (eq-eqb _ _ (S .total))
+      every-none))))))))))
     where
       near : (ℓ r : ℕ) → (lineStart ws ℓ ≤ r → suc r < lineStart ws (suc ℓ) → end r + gapOf left ≤ start (suc r)) → (a : Bool)
           → leb (lineStart ws ℓ) r ≡ a → (b : Bool) → ltb (suc r) (lineStart ws (suc ℓ)) ≡ b → (beside ℓ r || apart r) ≡ true

@@ -1,4 +1,5 @@
--- Sound words: of document 01's "Unsound, exactly", the clauses about words, in its order, and the test that decides them.
+-- Sound words: of document 01's "Unsound, exactly", the clauses about words, in its order, then document 02's, and the test that decides
+-- them all.
 -- Assumes nothing.
 use mathlib.Core.Path.{_≡_}
 use mathlib.Core.Bool.{Bool, false, _||_}
@@ -7,13 +8,17 @@ use Prim.Native.Nat.{ℕ, suc, _+_, _*_, _≤_, _<_}
 use lib.Dec.{eqb, ltb, leb}
 use lib.ListN.{length}
 use Rattle.frame.specs.Lists.{all, every}
-use Rattle.frame.specs.Runs.{gapOf}
+use Rattle.frame.specs.declared.Figures.{Figures}
+use Rattle.frame.specs.Runs.{gapOf, runLengths}
 use Rattle.frame.specs.Memory.{stride, mostRuns}
-use Rattle.frame.specs.Words.{lineStart, runStart, runEnd, parentOf}
+use Rattle.frame.specs.Words.{lineStart, runStart, runEnd, parentOf, storedRun}
 use Rattle.forest.specs.Forest.{nonRoots}
 
--- L lines of w cells, whether the left byte is nonzero, and the figures: lines fed, runs, joins
-module _ (L w : ℕ) (left : Bool) (fed runs joins : ℕ) (ws : List ℕ) where
+-- L lines of w cells, whether the left byte is nonzero, how many lines are fed, and the figures
+module _ (L w : ℕ) (left : Bool) (fed : ℕ) (figures : Figures) (ws : List ℕ) where
+  abbrev runs : ℕ
+  runs = figures .runs
+
   -- run r's start, end and parent
   abbrev start : ℕ → ℕ
   start = runStart L ws
@@ -42,7 +47,9 @@ module _ (L w : ℕ) (left : Bool) (fed runs joins : ℕ) (ws : List ℕ) where
     -- a parent above its run
     pub parents : (r : ℕ) → r < runs → parent r ≤ r
     -- joins not the count of runs whose parent isn't themselves
-    pub join-count : joins ≡ nonRoots parent runs
+    pub join-count : figures .joins ≡ nonRoots parent runs
+    -- document 02, F-1: a total that isn't the sum of the run lengths
+    pub total : figures .cells ≡ runLengths (storedRun L ws) runs
 
   -- computed: that it decides `WordsSound` is proved in proofs/StoredLaws.antt
   unfoldable pub wordsSound : Bool
@@ -57,11 +64,13 @@ module _ (L w : ℕ) (left : Bool) (fed runs joins : ℕ) (ws : List ℕ) where
       || leb (end r + gapOf left) (start (suc r))) runs) fed
       ∷ (left || all (λ r. leb (end r) (suc (start r))) runs)
       ∷ all (λ r. leb (parent r) r) runs
-      ∷ eqb joins (nonRoots parent runs)
+      ∷ eqb (figures .joins) (nonRoots parent runs)
+      ∷ eqb (figures .cells) (runLengths (storedRun L ws) runs)
       ∷ [])
 
--- what the pass asks: lines fed within the L lines, words for all runs that those can have, and a width within the limit
+-- what the pass asks: lines fed within the L lines, words for all runs that those can have, and width and cells within the limits
 pub record PassReady (L w : ℕ) (left : Bool) (fed : ℕ) (ws : List ℕ) : Type 0 where
   pub within : fed ≤ L
   pub memory : L + 1 + stride * (L * mostRuns left w) ≤ length ws
   pub short : w < 2147483647
+  pub small : L * w < 4294967296

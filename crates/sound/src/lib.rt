@@ -1,84 +1,131 @@
-// Whether words are sound, whatever they hold. One pass over the stored runs: it ends at the first clause that fails.
+// Whether words are sound, whatever they hold. One loop over the lines and one over all runs; then what they counted is compared. The loop
+// over runs has no branch and holds 32-bit numbers alone, so that LLVM takes several runs at once.
 //
 // Promised (specs/Stored.antt): the answer is the test of all the clauses about words.
+//
+// A run falls where it starts before the end of the run before it and the gap. In a line that is in order none falls but the first. So the
+// lines are in order exactly where as many runs fall as first runs do. Then there are at most h runs in a line, and the sum of the lengths
+// is at most the cells of the frame, fewer than 2^32.
 ghost use mathlib.Core.Path.{_≡_};
-ghost use mathlib.Core.Bool.{Bool};
-ghost use Prim.Native.Nat.{_<_, _≤_};
 ghost use Rattle.sound.specs.Stored.{wordsSound, PassReady};
-ghost use Rattle.sound.specs.Lines.{LineInPass, LineFound, longestRun, noRun};
+ghost use Rattle.sound.specs.Passes.{LinesReady, LinesFound, RunsReady, RunsFound};
 
-// Whether the words are sound, for a frame of that geometry, `fed` lines of which are fed, with those counts of runs and joins.
-pub fn words_sound(words: &[u32], g: geo::Geo, fed: usize, runs: usize, joins: usize) -> bool
+// Whether the words are sound, for a frame of that geometry, `fed` lines of which are fed, with those figures.
+pub fn words_sound(words: &[u32], g: geo::Geo, fed: usize, figures: frame::Figures) -> bool
     requires { ⌜ PassReady (g .lines) (g .width) (g .left) fed (now words) ⌝ }
-    ensures { λ r. ⌜ r ≡ wordsSound (g .lines) (g .width) (g .left) fed runs joins (now (words .entry)) ⌝ }
+    ensures { λ r. ⌜ r ≡ wordsSound (g .lines) (g .width) (g .left) fed figures (now (words .entry)) ⌝ }
 {
-    if words[0] != 0 {
+    let runs = figures.runs;
+    let most = geo::most_runs(g.left, g.width);
+    // No more runs than memory has words for: those looked at are then there, whatever the words hold.
+    if (words[0] != 0) | (runs > fed * most) {
         return false;
     }
-    let most = geo::most_runs(g.left, g.width);
+    let lines = lines_pass(words, g, fed, runs);
+    if !lines.sound {
+        return false;
+    }
+    let found = runs_pass(words, g.lines, g.left, runs);
+    let roots = found.roots as usize;
+    let cells = found.cells as usize;
+    let joins = figures.joins;
+    let total = figures.cells;
+    // With the left byte zero each run has one cell: each has at least one, and there are as many cells as runs.
+    (found.wrong == 0)
+        & (found.falls as usize == lines.falls)
+        & (runs - roots == joins)
+        & (cells == total)
+        & (g.left | (cells == runs))
+}
+
+// What the pass over the lines finds: whether their starts and their last ends are sound, and how many first runs fall.
+struct Lines {
+    sound: bool,
+    falls: usize,
+}
+
+// Before the first run: an end that every start is before, so that the first run falls.
+const NO_END: usize = 4294967296;
+
+// Ends rise along a line that is in order, so that only the last is held to the width. No start may be above `runs`, so that the runs
+// looked at are there.
+fn lines_pass(words: &[u32], g: geo::Geo, fed: usize, runs: usize) -> Lines
+    requires { ⌜ LinesReady (g .lines) fed runs (now words) ⌝ }
+    ensures { λ r. ⌜ LinesFound (g .lines) (now (words .entry)) (g .width) (g .left) fed runs r ⌝ }
+{
+    let gap = g.left as usize;
+    let base = g.lines + 1;
+    let mut falls: usize = 0;
+    let mut end = NO_END;
     let mut a: usize = 0;
-    let mut nonroots: usize = 0;
     let mut i: usize = 0;
     while i < fed {
         let b = words[i + 1] as usize;
-        if (b < a) | (b > a + most) {
-            return false;
+        if (b < a) | (b > runs) {
+            return Lines {
+                sound: false,
+                falls,
+            };
         }
-        match line_sound(words, g, a, b) {
-            LineSound::Sound(more) => {
-                nonroots += more;
-                a = b;
-                i += 1;
+        if a < b {
+            let s = words[base + frame::STRIDE * a] as usize;
+            falls += (s < end + gap) as usize;
+            end = words[base + (frame::STRIDE * (b - 1) + frame::END)] as usize;
+            if end > g.width {
+                return Lines {
+                    sound: false,
+                    falls,
+                };
             }
-            LineSound::Unsound => return false,
         }
+        a = b;
+        i += 1;
     }
-    (a == runs) & (nonroots == joins)
+    Lines {
+        sound: a == runs,
+        falls,
+    }
 }
 
-// What the pass finds of a line: sound, with so many runs that are not their own parents; or not.
-enum LineSound {
-    Sound(usize),
-    Unsound,
+// What the pass over the runs finds: how many have no cell or a parent above them, how many fall, how many are their own parents, and the
+// cells of all, modulo 2^32.
+struct Runs {
+    wrong: u32,
+    falls: u32,
+    roots: u32,
+    cells: u32,
 }
 
-// Whether the runs `a` to before `b`, those of a line, are sound. Ends rise along a line, so that only the last is held to the width.
-fn line_sound(words: &[u32], g: geo::Geo, a: usize, b: usize) -> LineSound
-    requires { ⌜ LineInPass (g .lines) (g .width) a b (now words) ⌝ }
-    ensures { λ r. ⌜ LineFound (g .lines) (g .width) (g .left) a b (now (words .entry)) r ⌝ }
+// Where no run is empty, `last` is the end before, less one where the gap is 0: a run falls where that is not before its start.
+fn runs_pass(words: &[u32], lines: usize, left: bool, runs: usize) -> Runs
+    requires { ⌜ RunsReady lines runs (now words) ⌝ }
+    ensures { λ r. ⌜ RunsFound lines (now (words .entry)) left runs r ⌝ }
 {
-    let gap = g.left as usize;
-    let longest = if g.left { LONGEST } else { 1 };
-    let base = g.lines + 1;
-    let mut least: usize = 0;
-    let mut nonroots: usize = 0;
-    let mut r = a;
-    while r < b {
+    let base = lines + 1;
+    let less = (!left) as u32;
+    let mut wrong: u32 = 0;
+    let mut falls: u32 = 0;
+    let mut roots: u32 = 0;
+    let mut cells: u32 = 0;
+    let mut last: u32 = 4294967295;
+    let mut r: usize = 0;
+    while r < runs {
         let at = frame::STRIDE * r;
-        let s = words[base + at] as usize;
-        let e = words[base + (at + frame::END)] as usize;
-        let p = words[base + (at + frame::PARENT)] as usize;
-        if (s < least) | no_run(longest, s, e) | (p > r) {
-            return LineSound::Unsound;
-        }
-        least = e + gap;
-        nonroots += (p < r) as usize;
+        let s = words[base + at];
+        let e = words[base + (at + frame::END)];
+        let p = words[base + (at + frame::PARENT)];
+        let own = r as u32;
+        wrong += ((e <= s) | (p > own)) as u32;
+        falls += (last >= s) as u32;
+        roots += (p == own) as u32;
+        cells = std::num::wrapping_add_u32(cells, std::num::wrapping_sub_u32(e, s));
+        last = std::num::wrapping_sub_u32(e, less);
         r += 1;
     }
-    if least > g.width + gap {
-        return LineSound::Unsound;
+    Runs {
+        wrong,
+        falls,
+        roots,
+        cells,
     }
-    LineSound::Sound(nonroots)
-}
-
-// With the left byte nonzero a run may have as many cells as words count: that it is not longer than its line follows from its end.
-const LONGEST: usize = 4294967296;
-
-// Whether `s` to before `e` is no run: it has no cell, or more than `longest`. One comparison tells both, since a negative length wraps to
-// a large number.
-fn no_run(longest: usize, s: usize, e: usize) -> bool
-    requires { ⌜ (longest ≤ 4294967296) × (s < 4294967296) × (e < 4294967296) ⌝ }
-    ensures { λ t. ⌜ ((left : Bool) → longest ≡ longestRun left → t ≡ noRun left s e) ⌝ }
-{
-    std::num::wrapping_sub_usize(e, s + 1) >= longest
 }

@@ -34,6 +34,7 @@ pub fn accepted(count: usize, counted: Count) -> Answer {
         figures: Figures {
             runs: counted.runs,
             joins: less(counted.runs, counted.n),
+            cells: counted.cells,
         },
     }
 }
@@ -68,7 +69,7 @@ pub fn reading(given: label::ReadAnswer) -> Answer {
 }
 
 fn same_figures(x: Figures, y: Figures) -> bool {
-    (x.runs == y.runs) & (x.joins == y.joins)
+    (x.runs == y.runs) & (x.joins == y.joins) & (x.cells == y.cells)
 }
 
 pub fn same(x: Answer, y: Answer) -> bool {

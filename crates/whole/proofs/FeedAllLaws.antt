@@ -17,6 +17,7 @@ use Rattle.frame.specs.Structure.{leftOn}
 use Rattle.frame.specs.Lists.{entries, padded}
 use Rattle.frame.specs.Causes.{hasZero}
 use Rattle.frame.specs.Plain.{zeroFigures}
+use Rattle.frame.specs.Sums.{plusFigures, FiguresFit}
 use Rattle.frame.specs.Words.{lineStart, storedRun}
 use Rattle.frame.proofs.EntryLaws.{entries-padded, entries-all}
 use Rattle.frame.proofs.ShapeLaws.{size-lines, length-leading}
@@ -25,6 +26,7 @@ use Rattle.frame.proofs.CauseLaws.{rank-right, Allowed}
 use Rattle.geo.specs.declared.Geo.{Geo}
 use Rattle.geo.specs.Geometry.{GeoOf}
 use Rattle.geo.proofs.GeoLaws.{within-limits}
+use Rattle.runs.specs.declared.Counts.{Counts}
 use Rattle.block.specs.Blocks.{RoomFor, Extracts, BlockReady, touchesFrom, BlockUnited}
 use Rattle.label.specs.declared.Session.{Session}
 use Rattle.label.specs.Record.{shapeOf, linesOf, withFigures}
@@ -36,7 +38,7 @@ use Rattle.label.specs.WholeFrame.{blockLines}
 use Rattle.label.proofs.OpenLaws.{opened-shape}
 use Rattle.label.proofs.FeedNoneLaws.{words-none, record-none}
 use Rattle.label.proofs.BlockLaws.{OneFeed, between-sound, one-more}
-use Rattle.label.proofs.FeedBlockLaws.{feed-room, feed-extracted, feed-ready, feed-joins-fit, feed-done}
+use Rattle.label.proofs.FeedBlockLaws.{feed-room, feed-extracted, feed-ready, feed-figures-fit, feed-done}
 
 -- ---- blocks
 
@@ -261,13 +263,13 @@ module _ {A : Type 0} {f : A → Bool} {shape structure : List ℕ} {cells : Lis
     pub all-room : RoomFor g fed (figures .runs) k more now
     all-room = feed-room s now k more G₁ g (geo₀ (I .opened))
 
-    module _ {ws₁ : List ℕ} {n : ℕ} (B : Extracts g fed (figures .runs) k more now ws₁ n) where
-      X : FeedExtracted s now k more g ws₁ n
-      X = feed-extracted s now k more G₁ g (geo₀ (I .opened)) ws₁ n B
+    module _ {ws₁ : List ℕ} {c : Counts} (B : Extracts g fed (figures .runs) k more now ws₁ c) where
+      X : FeedExtracted s now k more g ws₁ c
+      X = feed-extracted s now k more G₁ g (geo₀ (I .opened)) ws₁ c B
 
       pub all-ready : BlockReady (g .leads) (g .dims) L structure ws₁ fed k
       all-ready =
-          let R = feed-ready s now k more g ws₁ n X (long₀ (I .opened)) in
+          let R = feed-ready s now k more g ws₁ c X (long₀ (I .opened)) in
           record {
             leading = R .leading;
             bytes = rw (← I .opened .geometry .rank-is) (omega (arith, I .opened .allowed .bytes));
@@ -278,14 +280,8 @@ module _ {A : Type 0} {f : A → Bool} {shape structure : List ℕ} {cells : Lis
           }
 
       module _ {ws₂ : List ℕ} {t : ℕ} (U : BlockUnited (g .leads) (g .dims) L structure ws₁ ws₂ fed k t) where
-        pub all-joins : figures .joins + t < 4294967293
-        all-joins = feed-joins-fit s now k more g ws₁ n X (long₀ (I .opened)) ws₂ t (united₀ (I .opened) U)
-
-        abbrev s₂ : Session
-        s₂ = withFigures s₀ (fed + k) (record { runs = n; joins = figures .joins + t })
-
-        D : FeedDone s now k more s₂ ws₂
-        D = feed-done s now k more g ws₁ n X (long₀ (I .opened)) ws₂ t (united₀ (I .opened) U)
+        pub all-figures : FiguresFit figures (record { runs = c .runs; joins = t; cells = c .cells })
+        all-figures = feed-figures-fit s now k more g ws₁ c X (long₀ (I .opened)) ws₂ t (united₀ (I .opened) U)
 
         parts : map f (take (fed * w) cells) ++ more ≡ map f (take ((fed + k) * w) cells)
         parts =
@@ -294,11 +290,18 @@ module _ {A : Type 0} {f : A → Bool} {shape structure : List ℕ} {cells : Lis
             ∙ ap (λ (m : ℕ). map f (take (fed * w) cells ++ take m (drop (fed * w) cells))) e
             ∙ ap (map f) (sym (take-add (fed * w) (k * w) cells) ∙ ap (λ (m : ℕ). take m cells) (sym (add-mul fed k w)))
 
-        pub all-then : FedSoFar f shape structure cells g vs ws₂ (fed + k) (record { runs = n; joins = figures .joins + t })
-        all-then = record {
+        pub all-then : {figures₂ : Figures} → figures₂ ≡ plusFigures figures (record { runs = c .runs; joins = t; cells = c .cells })
+            → FedSoFar f shape structure cells g vs ws₂ (fed + k) figures₂
+        all-then {figures₂} is = record {
           opened = I .opened;
           within = below;
           one = subst (λ (cs : List Bool). OneFeed s₀ vs (fed + k) cs s₂ ws₂) parts
               (one-more s₀ vs (I .opened .is-sound) fed (map f (take (fed * w) cells)) s now few₀ (I .one) k more s₂ ws₂
               (omega (arith, below, lines₀ (I .opened))) (record { whole = G₁ .whole; session = D .session; words = D .words }));
         }
+          where
+            s₂ : Session
+            s₂ = withFigures s₀ (fed + k) figures₂
+
+            D : FeedDone s now k more s₂ ws₂
+            D = feed-done s now k more g ws₁ c X (long₀ (I .opened)) ws₂ t (united₀ (I .opened) U) is

@@ -2,7 +2,7 @@
 //
 //     label_impl_C_N    C is u8, u16, i16 or f32, and N is u8, u16 or u32
 //
-// A call opens, feeds all lines and reads. It asks nothing of its caller, keeps no record, and answers n, runs and joins, or one cause.
+// A call opens, feeds all lines and reads. It asks nothing of its caller, keeps no record, and answers n and the figures, or one cause.
 // What it promises is `FramePromise`, in label's specs/WholeFrame.antt: by equation the answer, every word and every output place,
 // refusals too. The block count stands in no promise: it changes no answer.
 //
@@ -86,8 +86,13 @@ fn feed_frame_u8(
         let k = lesser(most, lines - fed);
         let a = fed * w;
         let e = a + k * w;
-        figures.runs = block::extract_block_u8(&cells[a..e], g, words, fed, figures.runs, k);
-        figures.joins += block::union_block(words, g, structure, fed, k);
+        let new = block::extract_block_u8(&cells[a..e], g, words, fed, figures.runs, k);
+        let joins = block::union_block(words, g, structure, fed, k);
+        figures = figures.plus(frame::Figures {
+            runs: new.runs,
+            joins,
+            cells: new.cells,
+        });
         fed += k;
     }
     FedFrame { found, figures }
@@ -120,8 +125,13 @@ fn feed_frame_u16(
         let k = lesser(most, lines - fed);
         let a = fed * w;
         let e = a + k * w;
-        figures.runs = block::extract_block_u16(&cells[a..e], g, words, fed, figures.runs, k);
-        figures.joins += block::union_block(words, g, structure, fed, k);
+        let new = block::extract_block_u16(&cells[a..e], g, words, fed, figures.runs, k);
+        let joins = block::union_block(words, g, structure, fed, k);
+        figures = figures.plus(frame::Figures {
+            runs: new.runs,
+            joins,
+            cells: new.cells,
+        });
         fed += k;
     }
     FedFrame { found, figures }
@@ -154,8 +164,13 @@ fn feed_frame_i16(
         let k = lesser(most, lines - fed);
         let a = fed * w;
         let e = a + k * w;
-        figures.runs = block::extract_block_i16(&cells[a..e], g, words, fed, figures.runs, k);
-        figures.joins += block::union_block(words, g, structure, fed, k);
+        let new = block::extract_block_i16(&cells[a..e], g, words, fed, figures.runs, k);
+        let joins = block::union_block(words, g, structure, fed, k);
+        figures = figures.plus(frame::Figures {
+            runs: new.runs,
+            joins,
+            cells: new.cells,
+        });
         fed += k;
     }
     FedFrame { found, figures }
@@ -188,8 +203,13 @@ fn feed_frame_f32(
         let k = lesser(most, lines - fed);
         let a = fed * w;
         let e = a + k * w;
-        figures.runs = block::extract_block_f32(&cells[a..e], g, words, fed, figures.runs, k);
-        figures.joins += block::union_block(words, g, structure, fed, k);
+        let new = block::extract_block_f32(&cells[a..e], g, words, fed, figures.runs, k);
+        let joins = block::union_block(words, g, structure, fed, k);
+        figures = figures.plus(frame::Figures {
+            runs: new.runs,
+            joins,
+            cells: new.cells,
+        });
         fed += k;
     }
     FedFrame { found, figures }

@@ -6,15 +6,16 @@ use native.Mathlib.Omega.{arith}
 use borrow.Author.Needs.{needs}
 use Rattle.frame.specs.Kinds.{nz}
 use Rattle.block.specs.Blocks.{Extracts}
-use Rattle.block.proofs.BlockLaws.{block-none, cells-fit, block-room, block-small, block-then, block-end}
+use Rattle.block.proofs.BlockLaws.{block-none, cells-fit, block-room, block-small, block-few, block-then, block-end}
 use Rattle.block.proofs.extract_block_u16.Statement.{statement}
 use Rattle.block.proofs.extract_block_u16.Tie as tie
 
 abbrev Inv-loop : tie.InvT-loop
-Inv-loop cells g words₀ fed runs k base count₀ i₀ words count i = (i ≤ k) × Extracts g fed runs i (map nz cells) words₀ words count
+Inv-loop cells g words₀ fed runs k base new₀ total₀ i₀ words new total i =
+    (i ≤ k) × Extracts g fed runs i (map nz cells) words₀ words (record { runs = new; cells = total })
 
 abbrev μ-loop : tie.MeasureT-loop
-μ-loop cells g words₀ fed runs k base count₀ i₀ words count i = k - i
+μ-loop cells g words₀ fed runs k base new₀ total₀ i₀ words new total i = k - i
 
 add-base : tie.Need-add-base Inv-loop μ-loop
 add-base c = search needs
@@ -45,6 +46,30 @@ add-e c =
       );
     }
 
+add-at : tie.Need-add-at Inv-loop μ-loop
+add-at c =
+    let s = c .before .before .before .before .before .before .before in
+    let l = c .before .before .before .loop in
+    let r = block-room nz (s .args .cells .now) _ _ _ _ _ _ _ (s .pre) (l .i) (c .before .before .loop-test .taken) (l .words) (l .new)
+    (l .total) (l .inv .1) in
+    record { fits = omega (arith, r .room, l .inv .1 .long, s .good) }
+
+mul-at : tie.Need-mul-at Inv-loop μ-loop
+mul-at c =
+    let s = c .before .before .before .before .before .before .before in
+    let l = c .before .before .before .loop in
+    let r = block-room nz (s .args .cells .now) _ _ _ _ _ _ _ (s .pre) (l .i) (c .before .before .loop-test .taken) (l .words) (l .new)
+    (l .total) (l .inv .1) in
+    record { fits = omega (arith, r .room, l .inv .1 .long, s .good) }
+
+add-at-2 : tie.Need-add-at-2 Inv-loop μ-loop
+add-at-2 c =
+    let s = c .before .before .before .before .before .before .before in
+    let l = c .before .before .before .loop in
+    let r = block-room nz (s .args .cells .now) _ _ _ _ _ _ _ (s .pre) (l .i) (c .before .before .loop-test .taken) (l .words) (l .new)
+    (l .total) (l .inv .1) in
+    record { fits = omega (arith, r .room, l .inv .1 .long, s .good) }
+
 mul-extract-line-u16 : tie.Need-mul-extract-line-u16 Inv-loop μ-loop
 mul-extract-line-u16 c =
     let s = c .before .before .before .before .before .before .before in
@@ -71,53 +96,56 @@ part-extract-line-u16-end c =
       cells-fit nz (s .args .cells .now) _ _ _ _ _ _ _ (s .pre) (c .before .before .before .loop .i) (c .before .before .loop-test .taken),
     )
 
-mul-extract-line-u16-2 : tie.Need-mul-extract-line-u16-2 Inv-loop μ-loop
-mul-extract-line-u16-2 c =
-    let s = c .before .before .before .before .before .before .before .before .before in
-    let l = c .before .before .before .before .before .loop in
-    let r = block-room nz (s .args .cells .now) _ _ _ _ _ _ _ (s .pre) (l .i) (c .before .before .before .before .loop-test .taken)
-    (l .words) (l .count) (l .inv .1) in
-    record { fits = omega (arith, r .room, l .inv .1 .long, s .good) }
-
-add-extract-line-u16 : tie.Need-add-extract-line-u16 Inv-loop μ-loop
-add-extract-line-u16 c =
-    let s = c .before .before .before .before .before .before .before .before .before in
-    let l = c .before .before .before .before .before .loop in
-    let r = block-room nz (s .args .cells .now) _ _ _ _ _ _ _ (s .pre) (l .i) (c .before .before .before .before .loop-test .taken)
-    (l .words) (l .count) (l .inv .1) in
-    record { fits = omega (arith, r .room, l .inv .1 .long, s .good) }
-
 extract-line-u16-requires : tie.Need-extract-line-u16-requires Inv-loop μ-loop
 extract-line-u16-requires c κs =
     let s = c .before .before .before .before .before .before .before .before .before in
     let l = c .before .before .before .before .before .loop in
     block-room nz (s .args .cells .now) _ _ _ _ _ _ _ (s .pre) (l .i) (c .before .before .before .before .loop-test .taken) (l .words)
-    (l .count) (l .inv .1)
+    (l .new) (l .total) (l .inv .1)
 
-add-count : tie.Need-add-count Inv-loop μ-loop
-add-count c =
-    let s = c .before .before .before .before .before .before .before .before .before .before .before .before in
-    let l = c .before .before .before .before .before .before .before .before .loop in
-    let t = c .before .before .before .before .before .before .before .loop-test .taken in
-    let u = block-small nz (s .args .cells .now) _ _ _ _ _ _ _ (s .pre) (l .i) t (l .words) (l .count) (l .inv .1) _ _
-    (c .before .before .extract-line-u16 .ensures) in
+-- the counts with those of the line: of runs a number that a word holds, of nonzero cells no more than there are cells
+add-new : tie.Need-add-new Inv-loop μ-loop
+add-new c =
+    let s = c .before .before .before .before .before .before .before .before .before .before .before .before .before in
+    let l = c .before .before .before .before .before .before .before .before .before .loop in
+    let t = c .before .before .before .before .before .before .before .before .loop-test .taken in
+    let u = block-small nz (s .args .cells .now) _ _ _ _ _ _ _ (s .pre) (l .i) t (l .words) (l .new) (l .total) (l .inv .1) _ _
+    (c .before .before .before .extract-line-u16 .ensures) in
+    record { fits = omega (arith, u) }
+
+add-total : tie.Need-add-total Inv-loop μ-loop
+add-total c =
+    let s = c .before .before .before .before .before .before .before .before .before .before .before .before .before .before in
+    let l = c .before .before .before .before .before .before .before .before .before .before .loop in
+    let t = c .before .before .before .before .before .before .before .before .before .loop-test .taken in
+    let u = block-few nz (s .args .cells .now) _ _ _ _ _ _ _ (s .pre) (l .i) t (l .words) (l .new) (l .total) (l .inv .1) _ _
+    (c .before .before .before .before .extract-line-u16 .ensures) in
+    record { fits = omega (arith, u, s .good) }
+
+add-words : tie.Need-add-words Inv-loop μ-loop
+add-words c =
+    let s = c .before .before .before .before .before .before .before .before .before .before .before .before .before .before in
+    let l = c .before .before .before .before .before .before .before .before .before .before .loop in
+    let t = c .before .before .before .before .before .before .before .before .before .loop-test .taken in
+    let u = block-small nz (s .args .cells .now) _ _ _ _ _ _ _ (s .pre) (l .i) t (l .words) (l .new) (l .total) (l .inv .1) _ _
+    (c .before .before .before .before .extract-line-u16 .ensures) in
     record { fits = omega (arith, u) }
 
 cast-words : tie.Need-cast-words Inv-loop μ-loop
 cast-words c =
-    let s = c .before .before .before .before .before .before .before .before .before .before .before .before in
-    let l = c .before .before .before .before .before .before .before .before .loop in
-    let t = c .before .before .before .before .before .before .before .loop-test .taken in
+    let s = c .before .before .before .before .before .before .before .before .before .before .before .before .before .before in
+    let l = c .before .before .before .before .before .before .before .before .before .before .loop in
+    let t = c .before .before .before .before .before .before .before .before .before .loop-test .taken in
     record {
-      fits = block-small nz (s .args .cells .now) _ _ _ _ _ _ _ (s .pre) (l .i) t (l .words) (l .count) (l .inv .1) _ _
-          (c .before .before .extract-line-u16 .ensures);
+      fits = block-small nz (s .args .cells .now) _ _ _ _ _ _ _ (s .pre) (l .i) t (l .words) (l .new) (l .total) (l .inv .1) _ _
+          (c .before .before .before .before .extract-line-u16 .ensures);
     }
-
-add-words : tie.Need-add-words Inv-loop μ-loop
-add-words c = search needs
 
 add-words-2 : tie.Need-add-words-2 Inv-loop μ-loop
 add-words-2 c = search needs
+
+add-words-3 : tie.Need-add-words-3 Inv-loop μ-loop
+add-words-3 c = search needs
 
 mul-words : tie.Need-mul-words Inv-loop μ-loop
 mul-words c = search needs
@@ -133,12 +161,12 @@ loop-less c = search needs
 
 loop-again : tie.Need-loop-again Inv-loop μ-loop
 loop-again c =
-    let s = c .before .before .before .before .before .before .before .before .before .before .before .before in
-    let l = c .before .before .before .before .before .before .before .before .loop in
-    let t = c .before .before .before .before .before .before .before .loop-test .taken in (
+    let s = c .before .before .before .before .before .before .before .before .before .before .before .before .before .before in
+    let l = c .before .before .before .before .before .before .before .before .before .before .loop in
+    let t = c .before .before .before .before .before .before .before .before .before .loop-test .taken in (
       omega (arith, t),
-      block-then nz (s .args .cells .now) _ _ _ _ _ _ _ (s .pre) (l .i) t (l .words) (l .count) (l .inv .1) _ _
-          (c .before .before .extract-line-u16 .ensures),
+      block-then nz (s .args .cells .now) _ _ _ _ _ _ _ (s .pre) (l .i) t (l .words) (l .new) (l .total) (l .inv .1) _ _
+          (c .before .before .before .before .extract-line-u16 .ensures),
     )
 
 same-length : tie.Need-same-length Inv-loop μ-loop
@@ -157,17 +185,20 @@ extract-block-u16-spec =
     loop-holds
     mul-a
     add-e
+    add-at
+    mul-at
+    add-at-2
     mul-extract-line-u16
     sub-extract-line-u16
     part-extract-line-u16-start
     part-extract-line-u16-end
-    mul-extract-line-u16-2
-    add-extract-line-u16
     extract-line-u16-requires
-    add-count
-    cast-words
+    add-new
+    add-total
     add-words
+    cast-words
     add-words-2
+    add-words-3
     mul-words
     slice-write-words
     add-i

@@ -1,6 +1,6 @@
 -- `put_labelled_text` meets its contract.
 -- Assumes nothing.
-use Rattle.clumps_text.specs.Text.{decimal, runsName, joinsName, objectsName, labelsName}
+use Rattle.clumps_text.specs.Text.{decimal, runsName, joinsName, cellsName, objectsName, labelsName}
 use Rattle.clumps_text.specs.Output.{labelledText}
 use Rattle.frame.proofs.OverlayLaws.{adds-then, adds-first}
 use Rattle.clumps_text.proofs.PrintLaws.{adds-line}
@@ -26,6 +26,12 @@ slice-aggregate-put-line-3 c = search needs
 put-line-requires-3 : tie.Need-put-line-requires-3
 put-line-requires-3 c κs = search needs
 
+slice-aggregate-put-line-4 : tie.Need-slice-aggregate-put-line-4
+slice-aggregate-put-line-4 c = search needs
+
+put-line-requires-4 : tie.Need-put-line-requires-4
+put-line-requires-4 c κs = search needs
+
 slice-aggregate-put-bytes : tie.Need-slice-aggregate-put-bytes
 slice-aggregate-put-bytes c = search needs
 
@@ -42,22 +48,22 @@ same-length : tie.Need-same-length
 same-length c = search needs
 
 returns : tie.Need-returns
-unfolding labelledText runsName joinsName objectsName labelsName
+unfolding labelledText runsName joinsName cellsName objectsName labelsName
 returns c =
-    let s =
-    c .before .before .before .before .before .before .before .before .before .before .before .before .before .before .before .before
-    .before .before .before .before .before .before .before .before .before .before .before .before .before .before .args in
+    let labels = c .before .before in
+    let numbers = labels .before .before .before .before in
+    let name = numbers .before .before .before .before in
+    let objects = name .before .before .before .before .before in
+    let cells = objects .before .before .before .before .before in
+    let joins = cells .before .before .before .before .before in
+    let runs = joins .before .before .before .before .before in
+    let s = runs .before .before .before .before .before .args in
     adds-first
-    (adds-line runsName (decimal (s .figures .runs)) _
-    (c .before .before .before .before .before .before .before .before .before .before .before .before .before .before .before .before
-    .before .before .before .before .before .before .before .before .before .put-line .ensures)
-    (adds-line joinsName (decimal (s .figures .joins)) _
-    (c .before .before .before .before .before .before .before .before .before .before .before .before .before .before .before .before
-    .before .before .before .before .put-line2 .ensures)
-    (adds-line objectsName (decimal (s .n)) _
-    (c .before .before .before .before .before .before .before .before .before .before .before .before .before .before .before .put-line3
-    .ensures) (adds-then (c .before .before .before .before .before .before .before .before .before .before .put-bytes .ensures)
-    (adds-then (c .before .before .before .before .before .before .put-decimals .ensures) (c .before .before .put .ensures))))))
+    (adds-line runsName (decimal (s .figures .runs)) _ (runs .put-line .ensures)
+    (adds-line joinsName (decimal (s .figures .joins)) _ (joins .put-line2 .ensures)
+    (adds-line cellsName (decimal (s .figures .cells)) _ (cells .put-line3 .ensures)
+    (adds-line objectsName (decimal (s .n)) _ (objects .put-line4 .ensures)
+    (adds-then (name .put-bytes .ensures) (adds-then (numbers .put-decimals .ensures) (labels .put .ensures)))))))
 
 pub put-labelled-text-spec : {M : Type 1} → statement M
 put-labelled-text-spec =
@@ -69,6 +75,8 @@ put-labelled-text-spec =
     put-line-requires-2
     slice-aggregate-put-line-3
     put-line-requires-3
+    slice-aggregate-put-line-4
+    put-line-requires-4
     slice-aggregate-put-bytes
     put-bytes-requires
     put-decimals-requires

@@ -29,6 +29,9 @@ loop-again c = tt
 name-runs-requires : tie.Need-name-runs-requires Inv-loop μ-loop
 name-runs-requires c κs = tt
 
+count-numbered-requires : tie.Need-count-numbered-requires Inv-loop μ-loop
+count-numbered-requires c κs = tt
+
 returns : tie.Need-returns Inv-loop μ-loop
 returns c = tt
 
@@ -44,4 +47,5 @@ number-cells-spec =
     loop-less
     loop-again
     name-runs-requires
+    count-numbered-requires
     returns)

@@ -41,9 +41,12 @@ shared-slice-read-t26 c = search needs
 shared-slice-read-t29 : tie.Need-shared-slice-read-t29
 shared-slice-read-t29 c = search needs
 
+shared-slice-read-t32 : tie.Need-shared-slice-read-t32
+shared-slice-read-t32 c = search needs
+
 returns : tie.Need-returns
 unfolding recordOf
-returns c = rw (c .before .before .before .before .before .before .before .before .structure-of .ensures)
+returns c = rw (c .before .before .before .before .before .before .before .before .before .structure-of .ensures)
 
 pub record-of-spec : {M : Type 1} → statement M
 record-of-spec =
@@ -61,4 +64,5 @@ record-of-spec =
     shared-slice-read-t23
     shared-slice-read-t26
     shared-slice-read-t29
+    shared-slice-read-t32
     returns)

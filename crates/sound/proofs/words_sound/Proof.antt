@@ -1,129 +1,74 @@
--- `words_sound` meets its contract. The loop's invariant: the lines before i are sound, with a runs, of which `nonroots` are not their own
--- parents.
+-- `words_sound` meets its contract.
 -- Assumes nothing.
-use mathlib.Core.Path.{subst}
-use Prim.Native.Nat.{_+_, _-_}
 use native.Mathlib.Omega.{arith}
 use borrow.Author.Needs.{needs}
-use Rattle.frame.proofs.LineLaws.{most-runs-le}
-use Rattle.sound.specs.Lines.{LineFound}
-use Rattle.sound.proofs.PassLaws.{LinesTo, lines-none, lines-more, line-wrong, line-ready, line-unsound, joins-few, answer-false}
-use Rattle.sound.proofs.PassLaws.{answer}
+use Rattle.sound.proofs.ReadyLaws.{product-small, runs-ready, lines-ready}
+use Rattle.sound.proofs.RunPassLaws.{roots-few}
+use Rattle.sound.proofs.PassLaws.{start-wrong, lines-wrong, answer}
 use Rattle.sound.proofs.words_sound.Statement.{statement}
 use Rattle.sound.proofs.words_sound.Tie as tie
 
-abbrev Inv-loop : tie.InvT-loop
-Inv-loop words g fed runs joins most a₀ nonroots₀ i₀ a nonroots i = LinesTo (g .lines) (g .width) (g .left) words fed i a nonroots
-
-abbrev μ-loop : tie.MeasureT-loop
-μ-loop words g fed runs joins most a₀ nonroots₀ i₀ a nonroots i = fed - i
-
-shared-slice-read-if1 : tie.Need-shared-slice-read-if1 Inv-loop μ-loop
-shared-slice-read-if1 c = search needs
-
-returns : tie.Need-returns Inv-loop μ-loop
-returns c = answer-false _ _ _ _ _ _ _ (λ W. omega (arith, c .if1 .taken, W .first))
-
-most-runs-requires : tie.Need-most-runs-requires Inv-loop μ-loop
+most-runs-requires : tie.Need-most-runs-requires
 most-runs-requires c κs = search needs
 
-loop-holds : tie.Need-loop-holds Inv-loop μ-loop
-loop-holds c = lines-none _ _ _ _ _ (omega (arith, c .before .if1 .left))
+shared-slice-read-if1 : tie.Need-shared-slice-read-if1
+shared-slice-read-if1 c = search needs
 
-add-b : tie.Need-add-b Inv-loop μ-loop
-add-b c = search needs
+mul-if1 : tie.Need-mul-if1
+mul-if1 c = omega (arith, product-small _ _ _ _ _ (c .before .most-runs .ensures) (c .before .before .before .pre))
 
-mul-b : tie.Need-mul-b Inv-loop μ-loop
-mul-b c = search needs
+returns : tie.Need-returns
+returns c = start-wrong _ _ _ _ _ _ (c .before .before .most-runs .ensures) (c .if1 .taken)
 
-shared-slice-read-b : tie.Need-shared-slice-read-b Inv-loop μ-loop
-shared-slice-read-b c = search needs
+lines-pass-requires : tie.Need-lines-pass-requires
+lines-pass-requires c κs =
+    let m = c .before .before in lines-ready _ _ _ _ _ (m .most-runs .ensures) (m .before .before .pre) _ (c .if1 .left)
 
-cast-b : tie.Need-cast-b Inv-loop μ-loop
-cast-b c = omega (arith, c .shared-slice-known3 .given (c .before .before .loop .i + 1))
-
-add-if2 : tie.Need-add-if2 Inv-loop μ-loop
-add-if2 c =
-    let l = c .before .before in
-    let s = c .before .before .before .before .before .before .before in
-    omega (
-      arith,
-      c .shared-slice-known3 .given (l .loop .i),
-      l .loop .inv .sound .last,
-      l .before .most-runs .ensures,
-      most-runs-le (s .args .g .left) (s .args .g .width),
-      s .pre .short,
-    )
-
-returns-2 : tie.Need-returns-2 Inv-loop μ-loop
+returns-2 : tie.Need-returns-2
 returns-2 c =
-    let l = c .before .before .before in
-    answer-false _ _ _ _ _ _ _ (line-wrong _ _ _ _ (l .before .most-runs .ensures) (l .loop .inv) (omega arith) (c .if2 .taken))
+    let l = c .before .before in
+    lines-wrong _ _ _ _ _ _ (l .before .before .before .before .before .pre) (l .lines-pass .ensures) (c .if2 .taken)
 
-line-sound-requires : tie.Need-line-sound-requires Inv-loop μ-loop
-line-sound-requires c κs =
-    let l = c .before .before .before in
-    line-ready _ _ _ _ (l .before .most-runs .ensures) (l .loop .inv) (omega arith) (c .if2 .left)
-    (c .before .before .before .before .before .before .before .before .pre)
+runs-pass-requires : tie.Need-runs-pass-requires
+runs-pass-requires c κs =
+    let l = c .before .before in
+    let m = l .before .before .before in
+    runs-ready _ _ _ _ _ (m .most-runs .ensures) (m .before .before .pre) _ (l .before .if1 .left)
 
-enum-known-more : tie.Need-enum-known-more Inv-loop μ-loop
-enum-known-more c = search needs
+cast-roots : tie.Need-cast-roots
+cast-roots c = search needs
 
-loop-again : tie.Need-loop-again Inv-loop μ-loop
-loop-again c =
-    let l = c .before .before .before .before .before .before .before in
-    lines-more _ _ _ _ (l .before .most-runs .ensures) (l .loop .inv) (omega arith) _ (c .before .before .before .before .if2 .left)
-    (subst (LineFound _ _ _ _ _ _) (c .before .more .given .1) (c .before .before .before .line-sound .ensures))
+cast-cells : tie.Need-cast-cells
+cast-cells c = search needs
 
--- no more of them than runs
-add-nonroots : tie.Need-add-nonroots Inv-loop μ-loop
-add-nonroots c = omega (
-  arith,
-  joins-few _ _ _ _ (loop-again c),
-  c .before .before .before .before .before .shared-slice-known3 .given
-      (c .before .before .before .before .before .before .before .loop .i + 1),
-)
+cast-result : tie.Need-cast-result
+cast-result c = search needs
 
-add-i : tie.Need-add-i Inv-loop μ-loop
-add-i c = search needs
+sub-result : tie.Need-sub-result
+sub-result c = roots-few _ _ _ (c .before .before .before .before .before .runs-pass .ensures)
 
-loop-less : tie.Need-loop-less Inv-loop μ-loop
-loop-less c = search needs
-
-enum-told : tie.Need-enum-told Inv-loop μ-loop
-enum-told c = search needs
-
-returns-3 : tie.Need-returns-3 Inv-loop μ-loop
+returns-3 : tie.Need-returns-3
 returns-3 c =
-    let l = c .before .before .before .before .before .before in
-    answer-false _ _ _ _ _ _ _ (line-unsound _ _ _ _ (l .before .most-runs .ensures) (l .loop .inv) (omega arith)
-    (subst (LineFound _ _ _ _ _ _) (c .enum-told .given .1) (c .before .before .line-sound .ensures)))
-
-returns-4 : tie.Need-returns-4 Inv-loop μ-loop
-returns-4 c = answer _ _ _ _ _ _ _ (c .before .loop .inv) (omega arith)
+    let f = c .before .before .before .before .before .before in
+    let l = f .before .before .before in
+    let m = l .before .before .before in
+    let P = m .before .before .pre in
+    answer _ _ _ _ _ _ P (l .lines-pass .ensures) (lines-ready _ _ _ _ _ (m .most-runs .ensures) P _ (l .before .if1 .left) .first)
+    (f .before .if2 .left) (f .runs-pass .ensures)
 
 pub words-sound-spec : {M : Type 1} → statement M
 words-sound-spec =
     tie.close
     (tie.spec
-    Inv-loop
-    μ-loop
-    shared-slice-read-if1
-    returns
     most-runs-requires
-    loop-holds
-    add-b
-    mul-b
-    shared-slice-read-b
-    cast-b
-    add-if2
+    shared-slice-read-if1
+    mul-if1
+    returns
+    lines-pass-requires
     returns-2
-    line-sound-requires
-    enum-known-more
-    add-nonroots
-    add-i
-    loop-less
-    loop-again
-    enum-told
-    returns-3
-    returns-4)
+    runs-pass-requires
+    cast-roots
+    cast-cells
+    cast-result
+    sub-result
+    returns-3)

@@ -16,6 +16,7 @@ pub enum Fault {
     Count,
     Runs,
     Joins,
+    Cells,
     Refusal,
     Word,
     Edge,
@@ -29,10 +30,11 @@ impl Fault {
             Ok("count") => Fault::Count,
             Ok("runs") => Fault::Runs,
             Ok("joins") => Fault::Joins,
+            Ok("cells") => Fault::Cells,
             Ok("refusal") => Fault::Refusal,
             Ok("word") => Fault::Word,
             Ok("edge") => Fault::Edge,
-            Ok(other) => panic!("COMPARE_FAULT is label, count, runs, joins, refusal, word or edge, not {other}"),
+            Ok(other) => panic!("COMPARE_FAULT is label, count, runs, joins, cells, refusal, word or edge, not {other}"),
         }
     }
 }
@@ -125,6 +127,7 @@ impl<N: Reads> Ours<N> {
             Fault::Count => self.answer.now_mut()[0] ^= 1,
             Fault::Runs => self.answer.now_mut()[1] ^= 1,
             Fault::Joins => self.answer.now_mut()[2] ^= 1,
+            Fault::Cells => self.answer.now_mut()[3] ^= 1,
             Fault::Refusal => self.number = if self.number == 0 { 10 } else { 0 },
             Fault::Word => *self.words.now_mut().last_mut().expect("a word") ^= 1,
             Fault::Edge => unsafe { *self.out.pointer().add(self.out.len()) = N::filled(&mut Random(self.number as u64 + 99)) },
@@ -152,8 +155,9 @@ fn differs<C: Labels<N>, N: Reads>(r: &mut Random, f: &Frame<C>, blocks: usize, 
                 return Some(format!("the Rust finds {n}, and ours returns {}", o.number));
             }
             let a = o.answer.now();
-            if a[..3] != [n, count, count.wrapping_sub(n)] || a[3..] != o.answer.was()[3..] {
-                return Some(format!("the Rust finds {n}, of {count} runs by their definition, and ours answers {:?}", &a[..3]));
+            let set = f.cells.iter().filter(|c| !c.zero()).count() as u64;
+            if a[..4] != [n, count, count.wrapping_sub(n), set] || a[4..] != o.answer.was()[4..] {
+                return Some(format!("the Rust finds {n}, of {count} runs by their definition and {set} nonzero cells, and ours answers {:?}", &a[..4]));
             }
             if let Some(i) = (0..theirs.out.len()).find(|&i| theirs.out[i] != o.out.now()[i]) {
                 return Some(format!("place {i} has {} in the Rust and {} in ours", theirs.out[i], o.out.now()[i]));

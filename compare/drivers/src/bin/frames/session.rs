@@ -52,17 +52,18 @@ impl Session {
         let mut want = s.words.was().to_vec();
         want[0] = 0;
         must(s.words.now() == want && s.words.edges_stand(), || "the opening writes more than word 0".into())?;
-        s.record_is(0)?;
+        s.record_is([0; 3])?;
         s.words.keep();
         Ok(s)
     }
 
-    /// The record's words, by their order; those past it stand.
-    fn record_is(&mut self, joins: u64) -> Held {
+    /// The record's words, by their order; those past it stand. `figures` are runs, joins and nonzero cells.
+    fn record_is(&mut self, figures: [u64; 3]) -> Held {
         let mut want = vec![self.shape.len() as u64];
         want.extend((0..4).map(|d| self.shape.get(d).map_or(0, |&x| x as u64)));
         want.extend((0..81).map(|d| self.structure.get(d).map_or(0, |&x| x as u64)));
-        want.extend([self.fed as u64, self.runs.at.len() as u64, joins]);
+        want.push(self.fed as u64);
+        want.extend(figures);
         want.extend(&self.record.was()[want.len()..]);
         must(self.record.now() == want && self.record.edges_stand(), || "the record's words".into())?;
         self.record.keep();
@@ -77,17 +78,19 @@ impl Session {
         self.runs = runs(&self.set, self.w, left_byte(&self.structure));
     }
 
-    fn figures(&self, first: u64) -> [u64; 3] {
+    /// Runs, joins and nonzero cells of the lines fed.
+    fn figures(&self) -> [u64; 3] {
         let runs = self.runs.at.len() as u64;
-        [first, runs, runs - self.n]
+        [runs, runs - self.n, self.set.iter().filter(|&&set| set).count() as u64]
     }
 
-    /// The words, the record and the answer after a call that returned a number and should return `want`.
-    fn hold(&mut self, mut number: u32, want: u32, answer: &mut Lent<u64>, says: [u64; 3], named: bool, united: bool) -> Held {
+    /// The words, the record and the answer after a call that returned a number and should return `want`, and should say `first` and the figures.
+    fn hold(&mut self, mut number: u32, want: u32, answer: &mut Lent<u64>, first: u64, named: bool, united: bool) -> Held {
         match self.fault {
             Fault::Count => answer.now_mut()[0] ^= 1,
             Fault::Runs => answer.now_mut()[1] ^= 1,
             Fault::Joins => answer.now_mut()[2] ^= 1,
+            Fault::Cells => answer.now_mut()[3] ^= 1,
             Fault::Refusal => number = if number == 0 { 10 } else { 0 },
             Fault::Word => *self.words.now_mut().last_mut().expect("a word") ^= 1,
             Fault::Edge => unsafe { *self.record.pointer().add(self.record.len()) ^= 1 },
@@ -99,12 +102,14 @@ impl Session {
             return must(answer.stands() && self.words.stands() && self.record.stands(), || "a refusal writes".into());
         }
         let a = answer.now();
-        must(a[..3] == says && a[3..] == answer.was()[3..], || format!("it answers {:?}, and should answer {says:?}", &a[..3]))?;
+        let figures = self.figures();
+        let says = a[0] == first && a[1..4] == figures;
+        must(says && a[4..] == answer.was()[4..], || format!("it answers {:?}, and should answer {first} and {figures:?}", &a[..4]))?;
         let did = Did { lines: self.lines, fed: self.fed, runs: &self.runs, w: self.w, labels: &self.labels, named, united };
         if let Some(d) = words_differ(&did, self.words.was(), self.words.now()) {
             return Err(d);
         }
-        self.record_is(says[2])?;
+        self.record_is(figures)?;
         self.words.keep();
         Ok(())
     }
@@ -132,8 +137,7 @@ impl Session {
             self.fed += k;
             self.relabel();
         }
-        let says = self.figures(self.fed as u64);
-        self.hold(number, want, &mut answer, says, false, k > 0)
+        self.hold(number, want, &mut answer, self.fed as u64, false, k > 0)
     }
 
     fn read<N: Reads>(&mut self, r: &mut Random) -> Held {
@@ -160,8 +164,7 @@ impl Session {
             let wrong = (0..places).find(|&i| Into::<u64>::into(out.now()[i]) != self.labels[i] as u64);
             must(wrong.is_none(), || format!("place {wrong:?} of the output is not the Rust's"))?;
         }
-        let says = self.figures(self.n);
-        self.hold(number, want, &mut answer, says, true, false)
+        self.hold(number, want, &mut answer, self.n, true, false)
     }
 
     fn sizes(&mut self, r: &mut Random) -> Held {
@@ -179,24 +182,24 @@ impl Session {
         let mut of = vec![0u32; self.n as usize + 1];
         self.labels.iter().for_each(|&l| of[l as usize] += 1);
         must(sizes.edges_stand() && if want == 0 { sizes.now() == &of[1..] } else { sizes.stands() }, || "the sizes are not those of the Rust's groups".into())?;
-        let says = self.figures(self.n);
-        self.hold(number, want, &mut answer, says, true, false)
+        self.hold(number, want, &mut answer, self.n, true, false)
     }
 
     /// Calls that are refused whatever the session holds: a short record, a short answer, a record of words that no call leaves.
     fn damaged(&mut self, r: &mut Random) -> Held {
         let (mut record, mut want, mut places) = (self.record.now().to_vec(), 6, ANSWER);
-        match below(r, 7) {
+        match below(r, 8) {
             0 => (places, want) = (below(r, ANSWER), 100),
             1 => {
-                record.truncate(88 - below(r, 88));
+                record.truncate(89 - below(r, 89));
                 want = 100;
             }
             2 => record[5 + below(r, 81)] = 256 + r.next(),
             3 => record[0] = [0, 5, u64::MAX][below(r, 3)],
             4 => record[86] = self.lines as u64 + 1,
             5 => record[87] += 1,
-            _ => record[88] += 1,
+            6 => record[88] += 1,
+            _ => record[89] = [record[89] + 1, record[89].wrapping_sub(1), record[89] + (1 << 32), u64::MAX][below(r, 4)],
         }
         self.refused(r, record, places, want)
     }

@@ -18,7 +18,7 @@ returns c =
 
 words-sound-requires : tie.Need-words-sound-requires
 words-sound-requires c κs =
-    let i = c .before in
+    let i = c .before .before in
     pass-ready (i .before .before .before .before .before .before .before .args .t1) _
     (i .before .before .shape-sound .ensures) (i .if1 .left)
 
@@ -28,7 +28,7 @@ refused-requires-2 c κs = search needs
 returns-2 : tie.Need-returns-2
 returns-2 c =
     let w = c .before .before in
-    let i = w .before .before in
+    let i = w .before .before .before in
     words-unsound _ _ (i .before .before .shape-sound .ensures) (i .if1 .left)
     (w .words-sound .ensures) (c .before .if2 .taken) (c .refused2 .ensures)
 
@@ -38,7 +38,7 @@ passed-requires c κs = search needs
 returns-3 : tie.Need-returns-3
 returns-3 c =
     let w = c .before .before in
-    let i = w .before .before in
+    let i = w .before .before .before in
     words-found _ _ (i .before .before .shape-sound .ensures) (i .if1 .left)
     (w .words-sound .ensures) (c .before .if2 .left) (c .passed .ensures)
 
