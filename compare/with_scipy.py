@@ -1,6 +1,7 @@
 # Random frames to this repository's whole-frame calls and to scipy.ndimage.label: n and every number, and that both refuse lopsided
-# structures. Build and run it by ./scipy.
+# structures; and random texts to the program clumps: every byte that it prints. Build and run it by ./scipy.
 import ctypes
+import subprocess
 import sys
 from collections import Counter
 
@@ -109,10 +110,42 @@ def lopsided_differs(lib, cells, structure, number, blocks):
     return None if returned == LOPSIDED and stands else f"a lopsided structure: ours returns {returned}; all stands: {stands}"
 
 
+def flags_of(values):
+    return "".join("1" if v else "0" for v in values.ravel())
+
+
+def text_differs(program, structure, cells):
+    """What clumps prints for a frame. No structure is an empty line, which means nine ones; SciPy's own default is the cross."""
+    named = "" if structure is None else flags_of(structure)
+    text = f"width={cells.shape[1]}\nlines={cells.shape[0]}\nstructure={named}\ncells={flags_of(cells)}\n"
+    meant = np.ones((3, 3), np.uint8) if structure is None else structure
+    labels, n = ndimage.label(cells, meant)
+    before = np.pad(cells, ((0, 0), (1, 0)))[:, :-1] if meant[1, 0] else np.zeros_like(cells)
+    runs = np.count_nonzero((cells != 0) & (before == 0))
+    numbers = " ".join(str(x) for x in labels.ravel())
+    right = f"runs={runs}\njoins={runs - n}\ncells={np.count_nonzero(cells)}\nobjects={n}\nlabels={numbers}\n"
+    printed = subprocess.run([program], input=text.encode(), capture_output=True).stdout
+    return None if printed == right.encode() else f"clumps prints\n{printed.decode()}and by SciPy it is\n{right}for\n{text}"
+
+
+def texts(program, r, count):
+    """How many texts have an empty structure line, and how many differed."""
+    empty, differed = 0, 0
+    for _ in range(count):
+        structure = None if r.integers(3) == 0 else structure_of(r, 2)
+        shape = r.integers(1, r.choice([4, 9, 49], 2))
+        why = text_differs(program, structure, cells_of(r, shape, "u8"))
+        empty += structure is None
+        differed += why is not None
+        if why and differed == 1:
+            print(f"the first difference of a text: {why}")
+    return empty, differed
+
+
 def main():
-    lib = ctypes.CDLL(sys.argv[1])
-    seed = int(sys.argv[2]) if len(sys.argv) > 2 else 1
-    frames = int(sys.argv[3]) if len(sys.argv) > 3 else 30000
+    lib, program = ctypes.CDLL(sys.argv[1]), sys.argv[2]
+    seed = int(sys.argv[3]) if len(sys.argv) > 3 else 1
+    frames = int(sys.argv[4]) if len(sys.argv) > 4 else 30000
     r = np.random.default_rng(seed)
     seen, lopsided, differed = Counter(), 0, 0
     for i in range(frames):
@@ -135,8 +168,10 @@ def main():
                     print(f"structure {s.tolist()}\ncells {cells.tolist()}")
     print(f"SciPy {scipy.__version__}, seed {seed}; {frames} frames: " + ", ".join(f"{k} {v}" for k, v in sorted(seen.items())))
     print(f"{lopsided} tried for 12")
-    print(f"{differed} differed")
-    sys.exit(differed > 0)
+    empty, texts_differed = texts(program, r, frames // 10)
+    print(f"{frames // 10} texts to clumps, {empty} of them with an empty structure line")
+    print(f"{differed + texts_differed} differed")
+    sys.exit(differed + texts_differed > 0)
 
 
 main()

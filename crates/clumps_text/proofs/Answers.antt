@@ -68,12 +68,20 @@ text w l s cells past = line widthName w (line linesName l (line structureName s
 abbrev f : ℕ → ℕ → ℕ → Figures
 f r j c = record { runs = r; joins = j; cells = c }
 
--- an empty structure line is the default's; nine ones join 10/01 where it does not
-cross-right : map clumpsOf (text (c 1 3) (c 1 3) [] (c 9 101101111) [] ∷ text (c 1 2) (c 1 2) [] (c 4 1001) [] ∷ text (c 1 2) (c 1 2)
-    (c 9 10111010) (c 4 1001) [] ∷ text (c 1 2) (c 1 2) (c 9 111111111) (c 4 1001) [] ∷ []) ≡ example-output ∷ labelledText 2 (f 2 0 2)
-    (1 ∷ 0 ∷ 0 ∷ 2 ∷ []) ∷ labelledText 2 (f 2 0 2) (1 ∷ 0 ∷ 0 ∷ 2 ∷ []) ∷ labelledText 1 (f 2 1 2) (1 ∷ 0 ∷ 0 ∷ 1 ∷ []) ∷ []
+-- 10/01, two cells that touch at a corner: one clump under an empty structure line as under nine ones, and two under the cross
+corner : List ℕ → List ℕ
+corner structure = text (c 1 2) (c 1 2) structure (c 4 1001) []
+
+corner-right : map clumpsOf (corner [] ∷ corner (c 9 111111111) ∷ corner (c 9 10111010) ∷ [])
+    ≡ labelledText 1 (f 2 1 2) (1 ∷ 0 ∷ 0 ∷ 1 ∷ []) ∷ labelledText 1 (f 2 1 2) (1 ∷ 0 ∷ 0 ∷ 1 ∷ [])
+    ∷ labelledText 2 (f 2 0 2) (1 ∷ 0 ∷ 0 ∷ 2 ∷ []) ∷ []
+unfolding corner text characters computed
+corner-right = refl
+
+-- the example's cells under an empty structure line get the same labels
+example-empty : clumpsOf (text (c 1 3) (c 1 3) [] (c 9 101101111) []) ≡ example-output
 unfolding example-output text characters computed
-cross-right = refl
+example-empty = refl
 
 -- the shape is lines, width: two cells in a line are one run, one below the other they are two
 shape-right : map clumpsOf (text (c 1 2) (c 1 1) [] (c 2 11) [] ∷ text (c 1 1) (c 1 2) [] (c 2 11) [] ∷ [])

@@ -19,6 +19,7 @@ use Rattle.clumps_text.specs.Input.{lastLines, parse}
 use Rattle.clumps_text.specs.Output.{asByte, structureBytes}
 use Rattle.clumps_text.specs.Steps.{parseFrom, parseAsBytes, parseStructure, ByteFrame, frameBytes, parsedBytes, isEmpty, endsAt}
 use Rattle.clumps_text.proofs.InputLaws.{parse-flags-back, flags-given-cases}
+use Rattle.clumps_text.proofs.StructureLaws.{nine-bytes}
 use Rattle.clumps_text.proofs.PlaceLaws.{parse-next, from-at, from-and-then, and-then-from}
 
 -- ---- the text's end
@@ -52,16 +53,6 @@ flags-given-most t = go (flags-given-cases t)
     go : (flagsGiven t ≡ 0) ⊎ (flagsGiven t ≡ 9) → flagsGiven t ≤ 9
     go (inl e) = omega arith
     go (inr e) = omega arith
-
-pub default-nine : {out : List ℕ} → out ≡ structureBytes [] → length out ≡ 9
-unfolding structureBytes
-default-nine e = ap length e
-
--- nine flags are no empty structure
-nine-bytes : (fs : List Bool) → length fs ≡ 9 → map asByte fs ≡ structureBytes fs
-unfolding structureBytes
-nine-bytes [] e = absurd (omega arith)
-nine-bytes (f ∷ fs) e = refl
 
 nine-parsed : (t : List ℕ) → parseAsBytes 9 t ≡ andThen (parseFlags 9 t) (λ fs s. parsed (structureBytes fs) s)
 unfolding parseAsBytes andThen

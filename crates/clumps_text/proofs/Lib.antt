@@ -1,5 +1,6 @@
 pub mod DecimalLaws
 pub mod InputLaws
+pub mod StructureLaws
 pub mod PlaceLaws
 pub mod FrameLaws
 pub mod LabelLaws

@@ -12,7 +12,7 @@ use Rattle.clumps_text.specs.Text.{line, decimal, flagCharacter, widthNa
 
 -- ---- the text of a frame
 
--- what the lines say. No structure flags stand for SciPy's default; the cells are in C order
+-- what the lines say. No structure flags stand for nine ones; the cells are in C order
 pub record TextFrame : Type 0 where
   pub width : ℕ
   pub lines : ℕ

@@ -3,7 +3,7 @@
 use mathlib.Core.Bool.{Bool, cond}
 use mathlib.Core.List.{List, [], _∷_, map}
 use Prim.Native.Nat.{ℕ}
-use lib.ListN.{length}
+use lib.ListN.{length, replicate}
 use Rattle.frame.specs.ChainRule.{groupCount, labels}
 use Rattle.frame.specs.Causes.{lopsided}
 use Rattle.frame.specs.declared.Figures.{Figures}
@@ -22,9 +22,9 @@ frameShape f = f .lines ∷ f .width ∷ []
 abbrev pub asByte : Bool → ℕ
 asByte b = cond b 1 0
 
--- nine flags, or none for SciPy's default 010111010
+-- nine flags, or none for nine ones (document 02's F-7)
 unfoldable pub structureBytes : List Bool → List ℕ
-structureBytes [] = 0 ∷ 1 ∷ 0 ∷ 1 ∷ 1 ∷ 1 ∷ 0 ∷ 1 ∷ 0 ∷ []
+structureBytes [] = replicate 9 1
 structureBytes (b ∷ bs) = map asByte (b ∷ bs)
 
 abbrev pub frameStructure : TextFrame → List ℕ

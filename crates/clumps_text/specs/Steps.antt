@@ -30,7 +30,7 @@ Parses text place k a next = parseFrom text next (parsed a) ≡ parseFrom text p
 unfoldable pub parseAsBytes : ℕ → List ℕ → Parsed (List ℕ)
 parseAsBytes n t = andThen (parseFlags n t) λ fs s. parsed (map asByte fs) s
 
--- the structure's bytes, by its flags or the default's
+-- the structure's bytes: its flags, or nine ones for none
 unfoldable pub parseStructure : List ℕ → Parsed (List ℕ)
 parseStructure t = andThen (parseFlags (flagsGiven t) t) λ fs s. parsed (structureBytes fs) s
 

@@ -1,7 +1,8 @@
 // The program clumps as a function from bytes to bytes: `report` reads document 01's four lines, labels the frame and prints the answer.
 //
-// Promised (specs/Output.antt): whatever the input, the output is `clumpsOf` of it, as far as the slice reaches. A text of any other form
-// than specs/Input.antt's is refused by 11, and a lopsided structure by 12; no other refusal can come.
+// Promised (specs/Output.antt): whatever the input, the output is `clumpsOf` of it, as far as the slice reaches. An empty structure line
+// means nine ones. A text of any other form than specs/Input.antt's is refused by 11, and a lopsided structure by 12; no other refusal
+// can come.
 ghost use mathlib.Core.Path.{_≡_};
 ghost use mathlib.Core.List.{[], _∷_, _++_, map};
 ghost use Prim.Native.Nat.{_-_, _*_, _≤_, min};
@@ -186,7 +187,7 @@ fn flags_given_at(text: &[u8], at: usize) -> usize
     9
 }
 
-// The structure's flags, into a slice that holds the default.
+// The structure's flags, into a slice that holds nine ones: an empty line leaves them.
 fn parse_structure(text: &[u8], place: Place, structure: &mut [u8]) -> Place
     requires { ⌜ now structure ≡ structureBytes [] ⌝ }
     ensures { λ r. ⌜ Parses (now (text .entry)) place parseStructure (now (structure .exit)) r ⌝ }
@@ -368,7 +369,7 @@ pub fn report(text: &[u8], out: &mut [u8]) -> usize
     ensures { λ r. ⌜ (now (out .exit) ≡ overlay (clumpsOf (now (text .entry))) (now (out .entry)))
         × (r ≡ min (length (clumpsOf (now (text .entry)))) (length (now (out .entry)))) ⌝ }
 {
-    let mut structure = [0u8, 1, 0, 1, 1, 1, 0, 1, 0];
+    let mut structure = [1u8; 9];
     let mut cells = [0u8; 2304];
     let mut numbers = [0u16; 2304];
     let z = parse_frame(text, &mut structure, &mut cells);

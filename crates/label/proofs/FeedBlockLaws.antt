@@ -43,7 +43,7 @@ use Rattle.label.specs.declared.Session.{Session}
 use Rattle.label.specs.Record.{shapeOf, structureOf, linesOf, withFigures}
 use Rattle.label.specs.Sound.{Sound}
 use Rattle.label.specs.Held.{cellsOf}
-use Rattle.label.specs.Feeding.{runsAfter, startAfter, runAfter, feedTouches, feedEdges, figuresAfter, feedRecord}
+use Rattle.label.specs.Feeding.{runsAfter, startAfter, runAfter, feedTouches, feedEdges, feedRecord}
 use Rattle.label.specs.Feeding.{feedCauseOf, FeedWords, FeedPromise}
 use Rattle.label.specs.Steps.{RecordFound, FeedAccepted, FeedExtracted, SomeExtracted, FeedDone}
 use Rattle.label.proofs.AcceptedLaws.{accepted-fits, cause-accepted, done-promise}

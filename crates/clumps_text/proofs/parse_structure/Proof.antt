@@ -3,7 +3,8 @@
 use mathlib.Core.Path.{_≡_, _∙_}
 use native.Mathlib.Omega.{arith}
 use lib.ListN.{length, drop}
-use Rattle.clumps_text.proofs.FrameLaws.{default-nine, flags-given-most, structure-parsed}
+use Rattle.clumps_text.proofs.StructureLaws.{empty-nine}
+use Rattle.clumps_text.proofs.FrameLaws.{flags-given-most, structure-parsed}
 use borrow.Author.Needs.{needs}
 use Rattle.clumps_text.proofs.parse_structure.Statement.{statement}
 use Rattle.clumps_text.proofs.parse_structure.Tie as tie
@@ -24,7 +25,7 @@ parse-flags-requires : tie.Need-parse-flags-requires
 parse-flags-requires c κs =
     let s = c .before .before .before .before .before .before .before in
     let m = flags-given-most (drop (c .before .before .before .place .given .0 .0) (s .args .text .now)) in
-    let n : length (s .args .structure .now) ≡ 9 = default-nine (s .pre) in
+    let n : length (s .args .structure .now) ≡ 9 = empty-nine (s .pre) in
     omega (arith, c .before .flags-given-at .ensures)
 
 same-length : tie.Need-same-length
@@ -33,7 +34,7 @@ same-length c = search needs
 returns-2 : tie.Need-returns-2
 returns-2 c =
     let s = c .before .before .before .before .before .before .before .before .before .before in
-    let n : length (s .args .structure .now) ≡ 9 = default-nine (s .pre) in
+    let n : length (s .args .structure .now) ≡ 9 = empty-nine (s .pre) in
     let f = c .before .before .parse-flags in
     structure-parsed (s .args .text .now) (f .result) (f .last .1 .1 .1 .0)
     (c .before .before .before .before .before .before .place .given .1) (c .before .before .before .before .flags-given-at .ensures)
