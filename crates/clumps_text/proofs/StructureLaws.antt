@@ -25,9 +25,9 @@ unfolding structureBytes
 empty-nine e = ap length e
 
 -- an empty line is never refused by 12
-pub empty-even : lopsided 2 (structureBytes []) ≡ false
+pub empty-not-lopsided : lopsided 2 (structureBytes []) ≡ false
 unfolding structureBytes any on unlike lopsided
-empty-even = refl
+empty-not-lopsided = refl
 
 -- the frame whose line names nine ones
 abbrev onesNamed : TextFrame → TextFrame
