@@ -1,5 +1,5 @@
-# Random frames to this repository's whole-frame calls and to scipy.ndimage.label: n and every number, and that both refuse lopsided
-# structures; and random texts to the program clumps: every byte that it prints. Build and run it by ./scipy.
+# Random frames to this repository's whole-frame calls and to scipy.ndimage.label: n, every number and the size of every root, and that both
+# refuse lopsided structures; and random texts to the program clumps: every byte that it prints. Build and run it by ./scipy.
 import ctypes
 import subprocess
 import sys
@@ -14,6 +14,8 @@ NUMBERS = {"u8": np.uint8, "u16": np.uint16, "u32": np.uint32}
 # those of a float that a test for zero may get wrong: -0.0, NaN, the infinities, the least and another subnormal
 FLOATS = np.array([-0.0, np.nan, np.inf, -np.inf, 1e-45, -1e-40, 1.0], np.float32)
 REFUSED, LOPSIDED = 10, 12
+# a run's words: start, end, parent, name, size
+STRIDE, PARENT, SIZE = 5, 2, 4
 # what is lent holds this before a call
 WORD, PLACE, FIGURE = 0xABCDEF01, 77, 99
 
@@ -57,11 +59,11 @@ def cells_of(r, shape, kind):
 
 
 def ours(lib, cells, structure, number, blocks):
-    """What is returned, n with runs, joins and nonzero cells, the output, and whether all that was lent stands."""
+    """What is returned, n with runs, joins and nonzero cells, the output, the words of the runs, and whether all that was lent stands."""
     shape = (ctypes.c_size_t * cells.ndim)(*cells.shape)
     bytes_ = structure.ravel()
     lines, width = int(np.prod(cells.shape[:-1])), cells.shape[-1]
-    words = np.full(lines + 1 + 4 * lines * width, WORD, np.uint32)
+    words = np.full(lines + 1 + STRIDE * lines * width, WORD, np.uint32)
     out = np.full(cells.shape, PLACE, NUMBERS[number])
     answer = np.full(8, FIGURE, np.uint64)
     kind = next(k for k, v in CELLS.items() if v == cells.dtype)
@@ -70,7 +72,8 @@ def ours(lib, cells, structure, number, blocks):
     size, at = ctypes.c_size_t, lambda a: ctypes.c_void_p(a.ctypes.data)
     returned = call(shape, size(cells.ndim), at(bytes_), size(bytes_.size), at(words), size(words.size), at(cells), size(cells.size),
                     at(out), size(out.size), size(blocks), at(answer), size(8))
-    return returned, [int(x) for x in answer[:4]], out, (words == WORD).all() and (out == PLACE).all() and (answer == FIGURE).all()
+    stands = (words == WORD).all() and (out == PLACE).all() and (answer == FIGURE).all()
+    return returned, [int(x) for x in answer[:4]], out, words[lines + 1:].reshape(-1, STRIDE), stands
 
 
 def scipys(cells, structure, number):
@@ -84,7 +87,7 @@ def scipys(cells, structure, number):
 
 
 def differs(lib, cells, structure, number, blocks):
-    returned, (n, runs, joins, total), out, _ = ours(lib, cells, structure, number, blocks)
+    returned, (n, runs, joins, total), out, words, _ = ours(lib, cells, structure, number, blocks)
     theirs = scipys(cells, structure, number)
     if theirs is None:
         return None if returned == REFUSED else f"SciPy refuses, ours returns {returned}"
@@ -94,12 +97,16 @@ def differs(lib, cells, structure, number, blocks):
         return f"SciPy finds {theirs[0]}, ours {n} with {runs} runs and {joins} joins"
     if total != np.count_nonzero(cells):
         return f"{np.count_nonzero(cells)} cells are nonzero, ours answers {total}"
-    return None if np.array_equal(out, theirs[1]) else "the numbers differ"
+    if not np.array_equal(out, theirs[1]):
+        return "the numbers differ"
+    roots = words[:runs][words[:runs, PARENT] == np.arange(runs)]
+    sizes = np.bincount(theirs[1].ravel(), minlength=n + 1)[1:]
+    return None if np.array_equal(roots[:, SIZE], sizes) else f"the roots' sizes are {roots[:, SIZE]}, of SciPy's groups {sizes}"
 
 
 def lopsided_differs(lib, cells, structure, number, blocks):
     """Ours must return 12 and write nothing. SciPy must refuse the structure too, unless there is no cell: then it does not look at it."""
-    returned, _, _, stands = ours(lib, cells, structure, number, blocks)
+    returned, _, _, _, stands = ours(lib, cells, structure, number, blocks)
     try:
         ndimage.label(cells, structure, NUMBERS[number])
         said = "nothing"

@@ -1,11 +1,15 @@
 /* Tests of the C interface itself: refusals with their numbers and with nothing written, empty slices, words past a record and an
- * answer, and each kind on one small frame. It prints how many checks there were, and each that failed. */
+ * answer, sizes after each line and in damaged words, and each kind on one small frame. It prints how many checks there were, and each
+ * that failed. */
 #include "../include/label.h"
 
 #include <stdio.h>
 #include <string.h>
 
-enum { W = 3, L = 3, WORDS = L + 1 + 4 * L * 2, RECORD = LABEL_RECORD_WORDS, ANSWER = LABEL_ANSWER_WORDS };
+enum { W = 3, L = 3, STRIDE = 5, WORDS = L + 1 + STRIDE * L * 2, RECORD = LABEL_RECORD_WORDS, ANSWER = LABEL_ANSWER_WORDS };
+
+/* Where a run's fifth word is: its group's cell count, if the run is a root. */
+#define SIZE(run) (L + 1 + STRIDE * (run) + 4)
 
 static const size_t shape[2] = {L, W};
 static const uint8_t cross[9] = {0, 1, 0, 1, 1, 1, 0, 1, 0}, lopsided[9] = {0, 1, 0, 1, 1, 1, 0, 0, 0};
@@ -91,10 +95,11 @@ static void test_session(void)
 {
     static const uint8_t expect[L * W] = {1, 0, 1, 1, 0, 1, 1, 1, 1};
     static const uint64_t runs[L] = {2, 4, 5}, joins[L] = {0, 2, 4}, total[L] = {2, 4, 7};
+    static const uint32_t of[L][2] = {{1, 1}, {2, 2}, {7, 77}};
     struct session s, before;
     uint8_t out[L * W];
-    uint32_t size = 0;
-    size_t line, i;
+    uint32_t sizes[2];
+    size_t line, i, n;
 
     CHECK(open_session(&s) == LABEL_OK);
     for (line = 0; line < L; line++) {
@@ -108,10 +113,66 @@ static void test_session(void)
         CHECK(s.answer[3] == total[line] && s.record[RECORD - 1] == total[line]);
         for (i = (line + 1) * W; i < L * W; i++)
             CHECK(out[i] == 0);
+        /* The sizes after this line, in the words of the roots, which are the first runs, and copied from there. */
+        n = (size_t)(runs[line] - joins[line]);
+        sizes[0] = sizes[1] = 77;
+        before = s;
+        CHECK(label_sizes(s.record, RECORD, s.words, WORDS, sizes, n, s.answer, ANSWER) == LABEL_OK);
+        CHECK(memcmp(sizes, of[line], sizeof sizes) == 0 && same(&s, &before));
+        for (i = 0; i < n; i++)
+            CHECK(s.words[SIZE(i)] == of[line][i]);
     }
     CHECK(memcmp(out, expect, sizeof out) == 0);
+}
+
+/* Two lines fed, with two groups of two cells: roots 0 and 1, and runs 2 and 3, which are none. */
+static void open_two_lines(struct session *s)
+{
+    CHECK(open_session(s) == LABEL_OK && feed(s, 2, 0, 2 * W) == LABEL_OK);
+    CHECK(s->words[SIZE(0)] == 2 && s->words[SIZE(1)] == 2);
+}
+
+/* A feed of nothing, a reading and a size call, all with this result; a refusal changes nothing. */
+static void check_calls(struct session *s, uint32_t result)
+{
+    struct session before = *s;
+    uint8_t out[L * W] = {77};
+    uint32_t sizes[2] = {77, 77};
+
+    CHECK(feed(s, 0, 0, 0) == result);
+    CHECK(label_read_u8(s->record, RECORD, s->words, WORDS, out, L * W, s->answer, ANSWER) == result);
+    CHECK(label_sizes(s->record, RECORD, s->words, WORDS, sizes, 2, s->answer, ANSWER) == result);
+    CHECK(result == LABEL_OK || (same(s, &before) && out[0] == 77 && sizes[0] == 77 && sizes[1] == 77));
+    CHECK(result != LABEL_OK || (sizes[0] == s->words[SIZE(0)] && sizes[1] == s->words[SIZE(1)]));
+}
+
+/* The fifth words of roots must add up to the nonzero cells, and not only modulo 2^32. Those of other runs are free. */
+static void test_size_words(void)
+{
+    struct session s;
+    uint32_t size;
+
+    open_two_lines(&s);
+    s.words[SIZE(1)] = 3;
+    check_calls(&s, LABEL_UNSOUND);
+    s.words[SIZE(1)] = 0;
+    check_calls(&s, LABEL_UNSOUND);
+    s.words[SIZE(0)] = s.words[SIZE(1)] = 2 + UINT32_C(0x80000000);
+    check_calls(&s, LABEL_UNSOUND);
+    s.words[SIZE(0)] = UINT32_MAX;
+    s.words[SIZE(1)] = 5;
+    check_calls(&s, LABEL_UNSOUND);
+    open_two_lines(&s);
+    s.words[SIZE(2)] = UINT32_MAX;
+    s.words[SIZE(3)] = 0;
+    check_calls(&s, LABEL_OK);
+    /* Sizes that add up, though not by groups, are taken as they stand: the next line joins the groups, and adds its three cells. */
+    s.words[SIZE(0)] = 4;
+    s.words[SIZE(1)] = 0;
+    check_calls(&s, LABEL_OK);
+    CHECK(feed(&s, 1, 2 * W, W) == LABEL_OK);
     CHECK(label_sizes(s.record, RECORD, s.words, WORDS, &size, 1, s.answer, ANSWER) == LABEL_OK);
-    CHECK(size == 7 && s.answer[0] == 1 && s.answer[1] == 5 && s.answer[2] == 4 && s.answer[3] == 7);
+    CHECK(size == 7 && s.words[SIZE(0)] == 7 && s.answer[0] == 1 && s.answer[3] == 7);
 }
 
 static void test_refusals(void)
@@ -200,6 +261,7 @@ static const float cellsf[L * W] = {1.0f, 0.0f, 0.5f, -2.0f, -0.0f, 1e-30f, 3.0f
             CHECK(label_frame_##cell##_##number(shape, 2, cross, 9, s.words, WORDS, values, L * W, out, L * W,       \
                                                 blocks, s.answer, ANSWER) == LABEL_OK);                              \
             CHECK(s.answer[0] == 1 && s.answer[1] == 5 && s.answer[2] == 4 && s.answer[3] == 7);                     \
+            CHECK(s.words[SIZE(0)] == 7);                                                                            \
             for (i = 0; i < L * W; i++)                                                                              \
                 CHECK(out[i] == cells[i]);                                                                           \
         }                                                                                                            \
@@ -245,7 +307,7 @@ static const float cellsf[L * W] = {1.0f, 0.0f, 0.5f, -2.0f, -0.0f, 1e-30f, 3.0f
 /* 255 lone cells in one line are the most that a u8 holds; with 256 the number is 10, and output and answer stand. */
 static void test_kind(void)
 {
-    enum { WIDE = 511, WORDS_WIDE = 2 + 4 * 256 };
+    enum { WIDE = 511, WORDS_WIDE = 2 + STRIDE * 256 };
     static const uint8_t ones[3] = {1, 1, 1};
     static uint8_t line[WIDE], out[WIDE];
     static uint32_t memory[WORDS_WIDE];
@@ -266,7 +328,7 @@ static void test_kind(void)
 /* What label_open says with so many words, for lines of a width, with the left byte zero or not. */
 static uint32_t opened_with(size_t lines, size_t width, int left, size_t count)
 {
-    static uint32_t words[400];
+    static uint32_t words[500];
     size_t dims[2];
     uint8_t structure[9] = {0, 1, 0, 0, 1, 0, 0, 1, 0};
     uint64_t record[RECORD];
@@ -298,11 +360,11 @@ static void test_words_needed(void)
                 int large = label_words_needed(sizes[lines], sizes[width], left) == UINT64_MAX;
                 CHECK(opened_with(sizes[lines], sizes[width], left, 1) == (uint32_t)(large ? LABEL_TOO_LARGE : LABEL_MEMORY));
             }
-    CHECK(label_words_needed(3, 3, 1) == 28);
-    CHECK(label_words_needed(1024, 1024, 1) == 2098177);
-    CHECK(label_words_needed(1024, 1024, 0) == 4195329);
+    CHECK(label_words_needed(3, 3, 1) == 34);
+    CHECK(label_words_needed(1024, 1024, 1) == 2622465);
+    CHECK(label_words_needed(1024, 1024, 0) == 5243905);
     CHECK(label_words_needed(1, 0, 1) == 2);
-    CHECK(label_words_needed(4294967292u, 1, 0) == UINT64_C(21474836461));
+    CHECK(label_words_needed(4294967292u, 1, 0) == UINT64_C(25769803753));
     CHECK(label_words_needed(4294967293u, 0, 1) == UINT64_MAX);
     CHECK(label_words_needed(1, 2147483647u, 1) == UINT64_MAX);
     CHECK(label_words_needed(2147483647u, 3, 1) == UINT64_MAX);
@@ -314,6 +376,7 @@ int main(void)
     CHECK(label_record_words() == RECORD);
     test_open();
     test_session();
+    test_size_words();
     test_refusals();
     test_damage();
     KINDS(FRAME);

@@ -7,8 +7,8 @@
 
 enum { LINES = 6, WIDTH = 12 };
 
-/* The memory: lines + 1 + 4 x lines x half the width, as the structure's left byte is nonzero. */
-enum { WORDS = LINES + 1 + 4 * LINES * ((WIDTH + 1) / 2) };
+/* The memory: lines + 1 + 5 x lines x half the width, as the structure's left byte is nonzero. */
+enum { WORDS = LINES + 1 + 5 * LINES * ((WIDTH + 1) / 2) };
 
 static const char *const picture[LINES] = {
     "##....##...#",

@@ -6,7 +6,7 @@
 #include <string.h>
 #include <ucontext.h>
 
-enum { SIDE = 64, CELLS = SIDE * SIDE, WORDS = SIDE + 1 + 4 * SIDE * SIDE, STACK = 1 << 16 };
+enum { SIDE = 64, CELLS = SIDE * SIDE, WORDS = SIDE + 1 + 5 * SIDE * SIDE, STACK = 1 << 16 };
 
 static const size_t flat[2] = {SIDE, SIDE}, deep[4] = {4, 4, 4, SIDE};
 static uint8_t ones[81], left_zero[9] = {1, 1, 1, 0, 1, 1, 1, 1, 1};

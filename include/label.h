@@ -42,7 +42,7 @@ enum label_result {
 #define LABEL_RECORD_WORDS 90
 #define LABEL_ANSWER_WORDS 8
 
-/* The words of memory that a frame needs: lines + 1 + 4 x lines x h, where h is half the width, rounded up, or the whole width
+/* The words of memory that a frame needs: lines + 1 + 5 x lines x h, where h is half the width, rounded up, or the whole width
  * where the structure's left byte is 0. `lines` is the product of the leading dimensions (1 for rank 1), `left` is the left byte: the one
  * in the middle of the structure but one, structure[(3^rank - 1) / 2 - 1]. It is right for every frame that label_open takes; for
  * sizes that label_open refuses with LABEL_TOO_LARGE it gives UINT64_MAX, which no memory has. */
@@ -54,7 +54,7 @@ static inline uint64_t label_words_needed(uint64_t lines, uint64_t width, int le
         return UINT64_MAX;
     if (width != 0 && lines > UINT64_C(4294967292) / width)
         return UINT64_MAX;
-    return lines + 1 + 4 * lines * h;
+    return lines + 1 + 5 * lines * h;
 }
 
 /* LABEL_RECORD_WORDS, as the library has it. A program compares the two at its start where header and library could differ. */
@@ -73,7 +73,7 @@ uint32_t label_open(const size_t *shape, size_t rank,
 /* Feeds the next k lines of the frame, with their k x width cells. A cell counts by whether it is zero; of float +0.0 and -0.0
  * are zero, and NaN is not.
  * Accepted: answer[0] is lines fed, answer[1] runs, answer[2] joins, answer[3] nonzero cells, all so far, and the groups so far are
- * answer[1] - answer[2]. The record is written, and of the words the new line starts, runs and parents.
+ * answer[1] - answer[2]. The record is written, and of the words the new line starts, runs, parents and sizes.
  * Returns 0, 100, 6, 7 or 8, looked for in this order; unless it is 0, nothing is written. */
 uint32_t label_feed_u8(uint64_t *record, size_t record_words,
                        uint32_t *words, size_t word_count,
@@ -110,7 +110,8 @@ uint32_t label_read_u32(const uint64_t *record, size_t record_words,
                         uint32_t *out, size_t out_count,
                         uint64_t *answer, size_t answer_words);
 
-/* Writes the cell count of each number, 1 to n in turn, to `sizes`, which has n entries: n is runs - joins of the answer before.
+/* Writes the cell count of each number, 1 to n in turn, to `sizes`, which has n entries: n is runs - joins of the answer before. The
+ * counts are kept as lines are fed, and copied here.
  * Accepted: as a reading, with `sizes` in place of `out`.
  * Returns 0, 100, 6 or 9, looked for in this order; unless it is 0, nothing is written. */
 uint32_t label_sizes(const uint64_t *record, size_t record_words,

@@ -1,7 +1,19 @@
-//! Document 01's definitions that need no labelling: the words needed, the runs, and what the words hold after a call.
+//! The documents' definitions that need no labelling: the words needed, the runs, and what the words hold after a call.
 
-/// The words of a run: start, end, parent, name.
-const STRIDE: usize = 4;
+use std::collections::HashMap;
+
+/// Each run has STRIDE words. Counted from its first, which holds its start, END holds its end (one past), PARENT its parent, NAME its name
+/// and SIZE, at a root, its group's cell count.
+pub const STRIDE: usize = 5;
+pub const END: usize = 1;
+pub const PARENT: usize = 2;
+pub const NAME: usize = 3;
+pub const SIZE: usize = 4;
+
+/// Where word `i` of a run is, in a frame of so many lines.
+pub fn run_word(lines: usize, run: usize, i: usize) -> usize {
+    lines + 1 + STRIDE * run + i
+}
 
 pub fn left_byte(structure: &[u8]) -> bool {
     structure[structure.len() / 2 - 1] != 0
@@ -48,34 +60,40 @@ pub struct Did<'a> {
     pub labels: &'a [u32],
     /// The call set names.
     pub named: bool,
-    /// The call may change parents.
+    /// The call may change parents and sizes.
     pub united: bool,
 }
 
-/// What differs from document 01, if anything: starts, runs, names, every other word; and of parents, that each is at most its own run and that
-/// a group's root is its smallest run.
+/// What differs from the documents, if anything: starts, runs, names, the sizes of roots, every other word; and of parents, that each is at
+/// most its own run and that a group's root is its smallest run. The size of a run that is no root is free.
 pub fn words_differ(d: &Did, was: &[u32], now: &[u32]) -> Option<String> {
     let mut want = was.to_vec();
     for l in 0..=d.fed {
         want[l] = if d.w == 0 { 0 } else { d.runs.before[l] };
     }
-    let base = d.lines + 1;
-    let mut first = std::collections::HashMap::new();
+    let (mut first, mut cells) = (HashMap::new(), HashMap::new());
+    for &label in d.labels {
+        *cells.entry(label).or_insert(0u32) += 1;
+    }
     for (r, &(line, start, end)) in d.runs.at.iter().enumerate() {
         let label = d.labels[line * d.w + start as usize];
         let root = *first.entry(label).or_insert(r);
-        let at = base + STRIDE * r;
+        let at = run_word(d.lines, r, 0);
         want[at] = start;
-        want[at + 1] = end;
+        want[at + END] = end;
         if d.named {
-            want[at + 3] = label;
+            want[at + NAME] = label;
         }
         if d.united {
-            want[at + 2] = now[at + 2];
+            want[at + PARENT] = now[at + PARENT];
+            want[at + SIZE] = now[at + SIZE];
         }
-        let (mut p, mut q) = (r, now[at + 2] as usize);
+        if r == root {
+            want[at + SIZE] = cells[&label];
+        }
+        let (mut p, mut q) = (r, now[at + PARENT] as usize);
         while q < p {
-            (p, q) = (q, now[base + STRIDE * q + 2] as usize);
+            (p, q) = (q, now[run_word(d.lines, q, PARENT)] as usize);
         }
         if q != p || p != root {
             return Some(format!("the parents of run {r} lead to {q}, and its group's smallest run is {root}"));

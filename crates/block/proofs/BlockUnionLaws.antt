@@ -3,7 +3,7 @@
 use mathlib.Core.Path.{_≡_, refl, sym, ap, _∙_, subst}
 use mathlib.Core.Bool.{Bool, true, false}
 use mathlib.Core.List.{List, []}
-use Prim.Native.Nat.{ℕ, suc, _+_, _-_, _≤_, _<_}
+use Prim.Native.Nat.{ℕ, zero, suc, _+_, _-_, _*_, _≤_, _<_}
 use native.Mathlib.Nat.{le-refl}
 use native.Mathlib.Omega.{arith}
 use borrow.Author.Tests.{ltb-true, ltb-false}
@@ -11,18 +11,22 @@ use lib.Dec.{ltb}
 use lib.ListN.{length, drop, length-drop}
 use Rattle.groups.specs.Groups.{Edge, gather, rep, joins, visit}
 use Rattle.groups.proofs.VisitLaws.{rep-over, joins-over}
-use Rattle.frame.specs.Words.{parentPlace, lineStart, parentOf, storedRun}
+use Rattle.frame.specs.Memory.{stride}
+use Rattle.frame.specs.Runs.{Run, runLength}
+use Rattle.frame.specs.Words.{parentPlace, lineStart, runStart, runEnd, parentOf, sizeWord, storedRun}
 use Rattle.frame.specs.Touches.{touches}
-use Rattle.forest.specs.Forest.{grouping}
+use Rattle.forest.specs.Forest.{rootOf, grouping, rootSizes, Sums}
 use Rattle.forest.specs.Unions.{parentIn, Parents}
 use Rattle.forest.proofs.ForestLaws.{grouping-rep}
-use Rattle.forest.proofs.ResetLaws.{reset-grouping}
+use Rattle.forest.proofs.SizeLaws.{sums-total, brought-new, brought-sums}
+use Rattle.forest.proofs.ResetLaws.{reset-grouping, reset-sized}
 use Rattle.geo.specs.declared.Geo.{Geo}
 use Rattle.geo.specs.Geometry.{leadingOf}
 use Rattle.link.specs.Lines.{runsTo, LineReady, UnitedIn}
-use Rattle.link.proofs.PartLaws.{part-parents, starts-rise, in-others, in-parents, in-grouped, in-counted, in-long}
+use Rattle.link.proofs.PartLaws.{sorted-rise, part-parents, part-runs, to-part, from-part}
+use Rattle.link.proofs.PartLaws.{in-others, in-parents, in-grouped, in-counted, in-sized, in-long}
 use Rattle.link.proofs.TouchByLaws.{leading-size}
-use Rattle.block.specs.Blocks.{BlockReady, BlockUnited, ResetIn, touchesFrom}
+use Rattle.block.specs.Blocks.{broughtIn, BlockReady, BlockUnited, ResetReady, ResetIn, touchesFrom}
 use Rattle.block.proofs.BlockResetLaws.{reset-start, reset-runs, reset-part}
 use Rattle.block.proofs.LineUnionLaws.{touches-stand, Going}
 
@@ -42,6 +46,10 @@ module _ (g : Geo) (structure ws : List ℕ) (fed k : ℕ) (R : BlockReady (g .l
   abbrev b : ℕ
   b = lineStart ws (fed + k)
 
+  -- what each run brings to its group
+  abbrev brings : ℕ → ℕ
+  brings = broughtIn L ws fed
+
   -- no line
   pub block-idle : k ≡ 0 → BlockUnited n dims L structure ws ws fed k 0
   block-idle e =
@@ -57,8 +65,29 @@ module _ (g : Geo) (structure ws : List ℕ) (fed k : ℕ) (R : BlockReady (g .l
         parents = λ r h. R .parents r (omega arith);
         grouped = λ r h. sym (ap (λ (es : List Edge). rep es r) v ∙ grouping-rep (parentOf L ws) a (R .parents) r (omega arith));
         counted = omega (arith, ap joins v);
+        sized = subst (λ (x : ℕ). Sums (rootOf (parentOf L ws)) (sizeWord L ws) brings x) (sym same)
+            (brought-sums a (parentOf L ws) (sizeWord L ws) (λ r. runLength (storedRun L ws r)) (R .parents));
         no-lines = λ q. refl;
       }
+
+  -- no new run ends before it starts
+  upward : (i : ℕ) → i ≤ k → (r : ℕ) → lineStart ws fed ≤ r → r < lineStart ws (fed + i) → runStart L ws r ≤ runEnd L ws r
+  upward zero h r c d = let e : fed + 0 ≡ fed = omega arith in absurd (omega (arith, ap (lineStart ws) e))
+  upward (suc i) h r c d = go (ltb r (lineStart ws (fed + i))) refl (upward i (omega arith) r c)
+    where
+      e : fed + suc i ≡ suc (fed + i)
+      e = omega arith
+
+      go : (t : Bool) → ltb r (lineStart ws (fed + i)) ≡ t → (r < lineStart ws (fed + i) → runStart L ws r ≤ runEnd L ws r)
+          → runStart L ws r ≤ runEnd L ws r
+      go true t below = below (ltb-true _ _ t)
+      go false t below = omega (
+        arith,
+        R .sorted (fed + i) (omega arith) .nonempty r (ltb-false _ _ t) (subst (λ (x : ℕ). r < lineStart ws x) e d),
+      )
+
+  pub reset-may : ResetReady L ws fed k
+  reset-may = record { within = R .within; room = R .room; upward = upward k (le-refl k) }
 
   -- some
   module _ (ws′ : List ℕ) (X : ResetIn L ws ws′ fed k) (some : 0 < k) where
@@ -73,8 +102,44 @@ module _ (g : Geo) (structure ws : List ℕ) (fed k : ℕ) (R : BlockReady (g .l
     low r h = go (ltb r a) refl
       where
         go : (t : Bool) → ltb r a ≡ t → parentOf L ws′ r ≤ r
-        go true t = let l = ltb-true r a t in omega (arith, X .others (parentPlace L r) (λ x c d e. omega arith), R .parents r l)
+        go true t = let l = ltb-true r a t in omega (
+          arith,
+          X .others (parentPlace L r) (λ x c d. (omega arith, omega arith)),
+          R .parents r l,
+        )
         go false t = omega (arith, X .own r (ltb-false r a t) h)
+
+    upto : a ≤ b
+    upto =
+        let e : suc last ≡ fed + k = omega arith in
+        subst (λ (x : ℕ). a ≤ lineStart ws x) e
+        (sorted-rise L ws last (λ m h. R .sorted m (omega arith)) fed (suc last) (omega arith) (le-refl (suc last)))
+
+    P : Parents (drop (L + 1) ws) a
+    P = record {
+      room = omega (arith, length-drop (L + 1) ws, R .room, upto);
+      low = λ r h. subst (λ (f : ℕ → ℕ). f r ≤ r) (sym (part-parents L ws)) (R .parents r h);
+    }
+
+    room : stride * b ≤ length (drop (L + 1) ws)
+    room = omega (arith, length-drop (L + 1) ws, R .room)
+
+    stands : Parents (drop (L + 1) ws′) b × ((r : ℕ) → rep (grouping (parentIn (drop (L + 1) ws′)) b) r ≡ rep
+        (grouping (parentIn (drop (L + 1) ws)) a) r)
+        × (joins (grouping (parentIn (drop (L + 1) ws′)) b) ≡ joins (grouping (parentIn (drop (L + 1) ws)) a))
+    stands = reset-grouping (drop (L + 1) ws) (drop (L + 1) ws′) a b P room upto (reset-part L ws ws′ fed k X)
+
+    -- after the reset each root's size is the sum of what its group's runs bring
+    reset-sums : Sums (rootOf (parentOf L ws′)) (sizeWord L ws′) brings b
+    reset-sums = from-part L ws′ brings b
+        (reset-sized (drop (L + 1) ws) (drop (L + 1) ws′) a b P room upto (reset-part L ws ws′ fed k X) brings
+        (to-part L ws brings a (brought-sums a (parentOf L ws) (sizeWord L ws) (λ r. runLength (storedRun L ws r)) (R .parents)))
+        (λ r c d. brought-new a (parentOf L ws) (sizeWord L ws) (λ r. runLength (storedRun L ws r)) r c
+        ∙ ap (λ (f : ℕ → Run). runLength (f r)) (sym (part-runs L ws))))
+
+    -- so a word holds the sum of the sizes
+    reset-small : rootSizes (parentOf L ws′) (sizeWord L ws′) b < 4294967296
+    reset-small = omega (arith, sums-total (parentOf L ws′) (sizeWord L ws′) b low brings reset-sums, R .small)
 
     pub reset-ready : LineReady g structure ws′ (fed + k - 1)
     reset-ready = record {
@@ -89,32 +154,12 @@ module _ (g : Geo) (structure ws : List ℕ) (fed k : ℕ) (R : BlockReady (g .l
           reset-runs L ws ws′ fed k X,
         ) (R .sorted m (omega arith));
         parents = λ r h. low r (omega (arith, end-start));
+        small = rw end-start reset-small;
       };
     }
 
     pub reset-own : (r : ℕ) → lineStart ws′ fed ≤ r → r < runsTo ws′ (fed + k - 1) → parentOf L ws′ r ≡ r
     reset-own r c d = X .own r (omega (arith, reset-start L ws ws′ fed k X fed (omega (arith, R .within)))) (omega (arith, end-start))
-
-    upto : a ≤ b
-    upto =
-        omega (
-          arith,
-          end-start,
-          reset-start L ws ws′ fed k X fed (omega (arith, R .within)),
-          starts-rise L ws′ last (reset-ready .lines) fed (suc last) (omega arith) (le-refl (suc last)),
-        )
-
-    stands : Parents (drop (L + 1) ws′) b × ((r : ℕ) → rep (grouping (parentIn (drop (L + 1) ws′)) b) r ≡ rep
-        (grouping (parentIn (drop (L + 1) ws)) a) r)
-        × (joins (grouping (parentIn (drop (L + 1) ws′)) b) ≡ joins (grouping (parentIn (drop (L + 1) ws)) a))
-    stands =
-        reset-grouping (drop (L + 1) ws) (drop (L + 1) ws′) a b
-        (record {
-          room = omega (arith, length-drop (L + 1) ws, R .room, upto);
-          low = λ r h. subst (λ (f : ℕ → ℕ). f r ≤ r)
-              (sym (part-parents L ws)) (R .parents r h);
-        })
-        (omega (arith, length-drop (L + 1) ws, R .room)) upto (reset-part L ws ws′ fed k X)
 
     same-rep : (r : ℕ) → rep (grouping (parentOf L ws′) b) r ≡ rep (grouping (parentOf L ws) a) r
     same-rep r = subst (λ (f : ℕ → ℕ). rep (grouping f b) r ≡ rep (grouping (parentOf L ws) a) r) (part-parents L ws′)
@@ -150,5 +195,6 @@ module _ (g : Geo) (structure ws : List ℕ) (fed k : ℕ) (R : BlockReady (g .l
           in-counted L ws′ end b es t E,
           joins-over es (grouping (parentOf L ws′) b) (grouping (parentOf L ws) a) same-rep,
         );
+        sized = in-sized L ws′ end b es t E brings reset-sums;
         no-lines = λ e. absurd (omega arith);
       }

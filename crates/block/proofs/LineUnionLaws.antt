@@ -1,4 +1,4 @@
--- Lines united one after another, where the runs of the later lines are their own parents.
+-- Lines united one after another, where the runs of the later lines are groups of their own.
 -- Assumes nothing.
 use mathlib.Core.Path.{_≡_, sym, ap, _∙_, subst}
 use mathlib.Core.List.{List, append-nil}
@@ -11,10 +11,11 @@ use Rattle.groups.proofs.GatherLaws.{gather-same}
 use Rattle.groups.proofs.RepLaws.{Ends, ends-all}
 use Rattle.frame.specs.Shape.{size}
 use Rattle.frame.specs.Runs.{Run}
-use Rattle.frame.specs.Words.{parentPlace, lineStart, parentOf, storedRun}
+use Rattle.frame.specs.Words.{parentPlace, lineStart, parentOf, sizeWord, storedRun}
 use Rattle.frame.specs.Touches.{touchesBy, touchesOf, touches}
 use Rattle.frame.proofs.TouchLaws.{nbrOf, nbr-earlier, touches-from, touches-split, by-same}
 use Rattle.forest.specs.Unions.{parentIn}
+use Rattle.forest.proofs.SizeLaws.{sizes-fewer}
 use Rattle.geo.specs.declared.Geo.{Geo}
 use Rattle.geo.specs.Geometry.{leadingOf}
 use Rattle.link.specs.Lines.{runsTo, LinesReady, LineReady, UnitedIn, touchesIn}
@@ -50,6 +51,7 @@ lines-fewer L ws ℓ R m h =
       sorted = λ x l. R .sorted x
           (omega arith);
       parents = λ r l. R .parents r (omega (arith, rise));
+      small = omega (arith, R .small, sizes-fewer (parentOf L ws) (sizeWord L ws) (runsTo ws m) (runsTo ws ℓ) rise);
     }
 
 -- of the lines from `fed` on up to line `last` the first i are united, and the runs of the others are their own parents
@@ -114,7 +116,7 @@ module _ (g : Geo) (structure ws : List ℕ) (fed last : ℕ) (R : LineReady g s
 
     -- how many joins there can be
     pub going-few : t ≤ runsTo ws last
-    going-few = united-few (part-ready L ws last (R .lines)) ends (G .united .runs)
+    going-few = united-few (part-ready L ws last (R .lines) .parents) ends (G .united .runs)
 
     ready : LinesReady L now last
     ready = in-ready L ws last (R .lines) now (of fed i) t (G .united)
@@ -140,7 +142,8 @@ module _ (g : Geo) (structure ws : List ℕ) (fed last : ℕ) (R : LineReady g s
         wide : UnitedIn L now next (runsTo now last) (of (fed + i) 1) u
         wide = record {
           starts = here .starts;
-          runs = united-wide (drop (L + 1) now) (drop (L + 1) next) (runsTo now (fed + i)) (runsTo now last) (part-ready L now last ready)
+          runs = united-wide (drop (L + 1) now) (drop (L + 1) next) (runsTo now (fed + i)) (runsTo now last)
+              (part-ready L now last ready .parents)
               (starts-rise L now last ready (suc (fed + i)) (suc last) (omega arith) (le-refl (suc last))) own-now (of (fed + i) 1) u
               (subst (λ (x : ℕ). Ends (λ r. r < x) (of (fed + i) 1)) (sym (same-start (suc (fed + i)) (omega arith)))
               (of-ends (fed + i) 1 (suc (fed + i)) (omega arith) (omega arith))) (here .runs);
@@ -163,9 +166,9 @@ module _ (g : Geo) (structure ws : List ℕ) (fed last : ℕ) (R : LineReady g s
           own = λ r a b.
               let e : fed + (i + 1) ≡ suc (fed + i) = omega arith in
               let s : lineStart ws (suc (fed + i)) ≤ r = subst (λ (x : ℕ). lineStart ws x ≤ r) e a in
-              in-others L now next (runsTo now (fed + i)) (of (fed + i) 1) u here (parentPlace L r) (λ x k q. omega (
-                arith,
-                same-start (suc (fed + i)) (omega arith),
+              in-others L now next (runsTo now (fed + i)) (of (fed + i) 1) u here (parentPlace L r) (λ x k. (
+                omega (arith, same-start (suc (fed + i)) (omega arith)),
+                omega (arith, same-start (suc (fed + i)) (omega arith)),
               ))
               ∙ G .own r (omega (arith, rise (fed + i) (suc (fed + i)) (omega arith) (omega arith))) b;
         }

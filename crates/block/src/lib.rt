@@ -1,7 +1,7 @@
 // Lines of a feed: their runs are extracted, then united with their neighbours. Nothing here knows a record.
 //
 //     extract_block_T   the runs of new lines, for each kind of cell: line starts, starts and ends; and the count of nonzero cells
-//     union_block       the union of new lines with their neighbours, once their runs are there: parents
+//     union_block       the union of new lines with their neighbours, once their runs are there: parents and sizes
 ghost use mathlib.Core.List.{map};
 ghost use Rattle.frame.specs.Kinds.{nz, nzℤ, nzF};
 ghost use Rattle.block.specs.Blocks.{RoomFor, Extracts, BlockReady, BlockUnited, ResetReady, ResetIn};
@@ -136,7 +136,7 @@ pub fn extract_block_f32(
 // ---- union
 
 // Unites each of the `k` lines after the first `fed` with its neighbours; how many of those unions were joins. The new runs are at
-// first their own parents.
+// first groups of their own.
 pub fn union_block(words: &mut [u32], g: geo::Geo, structure: &[u8], fed: usize, k: usize) -> usize
     requires { ⌜ BlockReady (g .leads) (g .dims) (g .lines) (now structure) (now words) fed k ⌝ }
     ensures { λ t. ⌜ BlockUnited (g .leads) (g .dims) (g .lines) (now (structure .entry))
@@ -155,7 +155,7 @@ pub fn union_block(words: &mut [u32], g: geo::Geo, structure: &[u8], fed: usize,
     joins
 }
 
-// Makes the runs of the `k` lines after the first `fed` their own parents.
+// Makes the runs of the `k` lines after the first `fed` groups of their own.
 fn reset_block(words: &mut [u32], lines: usize, fed: usize, k: usize)
     requires { ⌜ ResetReady lines (now words) fed k ⌝ }
     ensures { λ _. ⌜ ResetIn lines (now (words .entry)) (now (words .exit)) fed k ⌝ }

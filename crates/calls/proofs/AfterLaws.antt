@@ -1,7 +1,7 @@
 -- A reading, and a size call, of a record that holds a state of the plain session, and the parents that its words hold.
 -- Assumes nothing.
 use mathlib.Core.Path.{_≡_, refl, sym, ap, _∙_, subst}
-use mathlib.Core.Bool.{Bool}
+use mathlib.Core.Bool.{Bool, true}
 use mathlib.Core.List.{List, map}
 use Prim.Native.Nat.{ℕ, _+_, _-_, _≤_, _<_}
 use native.Mathlib.Omega.{arith}
@@ -13,7 +13,7 @@ use Rattle.groups.proofs.CountLaws.{count-same}
 use Rattle.groups.proofs.NumberLaws.{numbered-same}
 use Rattle.frame.specs.Shape.{size}
 use Rattle.frame.specs.Structure.{Symmetric}
-use Rattle.frame.specs.ChainRule.{Labelled, groupCount, label, range, labels, sizeOf, sizesOf}
+use Rattle.frame.specs.ChainRule.{nonzero, Labelled, groupCount, label, range, labels, sizeOf, sizesOf}
 use Rattle.frame.specs.Kinds.{Number, largest, holds, Value, write, value}
 use Rattle.frame.specs.Plain.{Answer, counted, State, groupsOf, cause}
 use Rattle.frame.proofs.ChainRuleLaws.{label-only, length-range, length-labels, labels-right}
@@ -28,7 +28,7 @@ use Rattle.label.specs.Record.{shapeOf, structureOf}
 use Rattle.label.specs.Held.{cellsOf, rootCount, numbersHeld, sizesHeld}
 use Rattle.label.specs.Reading.{countedOf, readCauseOf, ReadPromise, sizesCauseOf, SizesPromise}
 use Rattle.label.proofs.Invariant.{stateOf, Inv, inv-n, inv-figures, inv-numbers, inv-sizes}
-use Rattle.label.proofs.GroupedLaws.{inv-parents, inv-root, inv-smallest}
+use Rattle.label.proofs.GroupedLaws.{inv-parents, inv-root, inv-smallest, cell-below, inv-size}
 use Rattle.label.proofs.KeepLaws.{read-cause, sizes-cause}
 use Rattle.calls.specs.Demand3.{Balanced, Reads, Sizes, Afterwards, Grouped}
 use Rattle.calls.proofs.RightLaws.{figures-right}
@@ -135,4 +135,15 @@ module _ (s : Session) (ws : List ℕ) (I : Inv s ws) where
   afterwards = record { reads = reads; sizes = sized }
 
   pub parents-grouped : Grouped shape (stateOf s ws) ws
-  parents-grouped = record { at-most = inv-parents s ws I; one-root = inv-root s ws I; smallest = inv-smallest s ws I }
+  parents-grouped = record {
+    at-most = inv-parents s ws I;
+    one-root = inv-root s ws I;
+    smallest = inv-smallest s ws I;
+    sized = λ ν N a l. inv-size s ws I a l ∙ same-size ν N (label shape structure cells a) ∙ own-number ν N a l;
+  }
+    where
+      -- ν gives the cell its number
+      own-number : (ν : ℕ → ℕ) → Labelled shape structure cells n ν → (a : ℕ) → nonzero cells a ≡ true
+          → count (λ q. eqb (ν q) (label shape structure cells a)) (size shape) ≡ count (λ q. eqb (ν q) (ν a)) (size shape)
+      own-number ν N a l = ap (λ (g : ℕ). count (λ q. eqb (ν q) g) (size shape))
+          (sym (label-only shape structure cells n ν N a (cell-below s ws I a l)))

@@ -12,7 +12,7 @@ use Rattle.frame.specs.Kinds.{u16, u8s, u16s, i16s, f32s, nz, nzℤ, nzF, flags
 use Rattle.frame.specs.Plain.{Call, feed, read, sizes, fed, counted, refused, nothing, numbers, counts, State}
 use Rattle.label.proofs.CallFunctions.{doOpen}
 use Rattle.label.proofs.MeetLaws.{open-met}
-use Rattle.label.proofs.Worked.{computed, frame, cross, memory, line, whole, f, begun}
+use Rattle.label.proofs.Worked.{computed, frame, cross, memory, line, whole, f, begun, row}
 use Rattle.calls.specs.Demand3.{rootAt, Demand3}
 use Rattle.calls.proofs.Demand3.{demand3}
 use Rattle.calls.proofs.MeetLaws.{Ran, doCalls, calls-met}
@@ -68,13 +68,7 @@ three = record { structure = cross; fed = 3; cells = line ++ line ++ whole }
 
 abbrev words : List ℕ
 words =
-    0 ∷ 2 ∷ 4 ∷ 5
-    ∷ 0 ∷ 1 ∷ 0 ∷ 7
-    ∷ 2 ∷ 3 ∷ 0 ∷ 7
-    ∷ 0 ∷ 1 ∷ 0 ∷ 7
-    ∷ 2 ∷ 3 ∷ 1 ∷ 7
-    ∷ 0 ∷ 3 ∷ 0 ∷ 7
-    ∷ replicate 4 7
+    0 ∷ 2 ∷ 4 ∷ 5 ∷ row 0 1 0 7 7 ++ row 2 3 0 7 7 ++ row 0 1 0 7 7 ++ row 2 3 1 7 7 ++ row 0 3 0 7 7 ++ replicate 5 7
 
 -- each cell's run has the root 0, be it two parents away
 roots-right : map (rootAt frame three words) (0 ∷ 2 ∷ 3 ∷ 5 ∷ 6 ∷ []) ≡ replicate 5 0

@@ -47,8 +47,8 @@ follows (by-sizes {s = s} {s′ = s′} {s″ = s″} {ws = ws} {ws′ = ws′} 
 
 -- ---- words that are u32s stay so, whatever is called
 
-pub trace-fits : {s s′ : Session} {ws ws′ : List ℕ} {cs : List Call} {az : List Answered} → Trace s ws cs az s′ ws′ → Words32 ws
-    → Words32 ws′
+pub trace-fits : {s s′ : Session} {ws ws′ : List ℕ} {cs : List Call} {az : List Answered} → Trace s ws cs az s′ ws′ → Words32 s ws
+    → Words32 s′ ws′
 trace-fits stop fits = fits
 trace-fits (by-feed {s = s} {s′ = s′} {ws = ws} {ws′ = ws′} {k = k} {cells = cells} {a = a} P T) fits =
     trace-fits T (feed-words-fit s ws k (flags cells) a s′ ws′ P fits)

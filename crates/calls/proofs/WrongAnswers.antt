@@ -1,4 +1,4 @@
--- Answers, outputs and parents that demand 3's clauses refuse: those cheats of document 01's "For whoever tests it" that show in them.
+-- Answers, outputs, parents and sizes that demand 3's clauses refuse: those cheats of document 01's "For whoever tests it" that show there.
 -- Assumes nothing.
 use mathlib.Core.Path.{_≡_, refl}
 use mathlib.Core.List.{List, [], _∷_, _++_}
@@ -6,12 +6,12 @@ use Prim.Native.Nat.{ℕ, _≤_}
 use native.Mathlib.Omega.{arith}
 use lib.ListN.{replicate}
 use Rattle.groups.specs.Groups.{one}
-use Rattle.frame.specs.ChainRule.{label}
+use Rattle.frame.specs.ChainRule.{label, sizeOf}
 use Rattle.frame.specs.Runs.{runOf}
 use Rattle.frame.specs.Kinds.{u8}
 use Rattle.frame.specs.Plain.{Answer, fed, counted, refused, State}
 use Rattle.frame.proofs.ChainRuleLaws.{label-right, label-group}
-use Rattle.label.proofs.Worked.{computed, frame, cross, line, f}
+use Rattle.label.proofs.Worked.{computed, frame, cross, line, f, row}
 use Rattle.calls.specs.Demand3.{Right, Reads, Sizes, Grouped}
 use Rattle.calls.proofs.AfterLaws.{number-is}
 
@@ -64,10 +64,13 @@ shifted a S =
     (omega arith) in
     omega arith
 
--- the words after those two lines, with any parents of their four runs. Cells 0 and 3 are of runs 0 and 2, and make one group; cells 2 and
--- 5 are of runs 1 and 3, and make another
+-- the words after those two lines, with any parents of their four runs, and y and z as the sizes of the first two. Cells 0 and 3 are of
+-- runs 0 and 2, and make one group; cells 2 and 5 are of runs 1 and 3, and make another
+abbrev words : ℕ → ℕ → ℕ → ℕ → ℕ → ℕ → List ℕ
+words a b c d y z = 0 ∷ 2 ∷ 4 ∷ 7 ∷ row 0 1 a 7 y ++ row 2 3 b 7 z ++ row 0 1 c 7 0 ++ row 2 3 d 7 0 ++ replicate 10 7
+
 abbrev parents : ℕ → ℕ → ℕ → ℕ → List ℕ
-parents a b c d = 0 ∷ 2 ∷ 4 ∷ 7 ∷ 0 ∷ 1 ∷ a ∷ 7 ∷ 2 ∷ 3 ∷ b ∷ 7 ∷ 0 ∷ 1 ∷ c ∷ 7 ∷ 2 ∷ 3 ∷ d ∷ 7 ∷ replicate 8 7
+parents a b c d = words a b c d 2 2
 
 -- all runs have one root; each run is its own; run 3 is the root of runs 1 and 3, by a parent that is above its run
 one-group : Grouped frame two (parents 0 0 0 0) → ⊥
@@ -91,3 +94,16 @@ larger-root G = let z : 3 ≤ 1 = G .smallest 2 refl .least 2 (refl, one) in ome
 parent-above : Grouped frame two (parents 0 3 0 3) → ⊥
 unfolding computed
 parent-above G = let z : 3 ≤ 1 = G .at-most 1 (omega arith) in omega arith
+
+-- a root's fifth word is its run's length alone; it is the sum of both groups
+own-length : Grouped frame two (words 0 1 0 1 1 2) → ⊥
+unfolding computed runOf sizeOf
+own-length G =
+    let z : _≡_ {A = ℕ} 1 2 = G .sized (label frame cross (line ++ line)) (label-right frame cross (line ++ line)) 0 refl in
+    omega arith
+
+both-groups : Grouped frame two (words 0 1 0 1 2 4) → ⊥
+unfolding computed runOf sizeOf
+both-groups G =
+    let z : _≡_ {A = ℕ} 4 2 = G .sized (label frame cross (line ++ line)) (label-right frame cross (line ++ line)) 2 refl in
+    omega arith

@@ -1,4 +1,5 @@
--- What demand 3 asks of every list of calls from an accepted opening, clause by clause, and what document 01 says of the parents then.
+-- What demand 3 asks of every list of calls from an accepted opening, clause by clause, and what document 01 says of the parents then, and
+-- document 02 of the fifth words.
 -- proofs/Demand3.antt proves it.
 -- Assumes nothing.
 use mathlib.Core.Path.{_≡_}
@@ -16,7 +17,7 @@ use Rattle.frame.specs.Runs.{runs, nonzeroCells, runOf, SmallestRun}
 use Rattle.frame.specs.Kinds.{Number, largest, Value, write, value}
 use Rattle.frame.specs.declared.Figures.{Figures}
 use Rattle.frame.specs.Plain.{Call, Answer, fed, counted, refused, Answered, State, opened, next, plain, after}
-use Rattle.frame.specs.Words.{parentOf}
+use Rattle.frame.specs.Words.{parentOf, sizeWord}
 use Rattle.forest.specs.Forest.{rootOf}
 use Rattle.label.specs.declared.Session.{Session}
 use Rattle.label.specs.Reading.{ReadPromise, SizesPromise}
@@ -67,7 +68,8 @@ module _ (shape : List ℕ) where
       -- demand 2's "SciPy's description of label settles what connected means": n and these numbers are those of that description
       pub described : ScipyLabelled shape (p .structure) (p .cells) n (λ q. value kind (getD out′ q (write kind 0)))
 
-    -- each number's size is its count of cells. The numbers are those of any reading: ν is right, and there is one such ν alone
+    -- document 02, F-3: "A list of calls that stops anywhere also finds each number's size equal to its cells". The numbers are those of
+    -- any reading: ν is right, and there is one such ν alone
     pub record Sizes (a : Answer) (out′ : List ℕ) : Type 0 where
       pub figures : Figures
       pub accepted : a ≡ counted n figures
@@ -84,7 +86,7 @@ module _ (shape : List ℕ) where
       pub sizes : (out : List ℕ) → length out ≡ n
           → (a : Answer) (s′ : Session) (ws′ out′ : List ℕ) → SizesPromise s ws out a s′ ws′ out′ → Sizes a out′
 
-  -- ---- the parents after the list
+  -- ---- the parents and the roots' fifth words after the list
 
   -- in the words ws, where the lines of p are fed
   module _ (p : State) (ws : List ℕ) where
@@ -104,6 +106,9 @@ module _ (shape : List ℕ) where
           → (rootAt a ≡ rootAt b) ↔ Chain (Step shape (p .structure) (p .cells)) a b
       -- and it is the smallest run of the cell's group
       pub smallest : (a : ℕ) → nonzero (p .cells) a ≡ true → SmallestRun shape (p .structure) (p .cells) a (rootAt a)
+      -- document 02, F-3: "a fifth word, its group's cell count, true at every root in a session from an accepted opening"
+      pub sized : (ν : ℕ → ℕ) → Labelled shape (p .structure) (p .cells) (groupsIn p) ν → (a : ℕ) → nonzero (p .cells) a ≡ true
+          → sizeWord (lines shape) ws (rootAt a) ≡ count (λ q. eqb (ν q) (ν a)) (size shape)
 
   -- ---- the demand
 

@@ -141,7 +141,7 @@ fn say_all(
     }
 }
 
-fn count_answer(state: &mut [u64; 40], number: usize) {
+fn count_answer(state: &mut [u64; 48], number: usize) {
     if number == plain::NO_CALL {
         tally::add(state, NO_CALLS);
         return;
@@ -158,7 +158,7 @@ fn one_call(
     i: usize,
     wanted: &mut [u64; 16384],
     now: Standing,
-    state: &mut [u64; 40],
+    state: &mut [u64; 48],
 ) -> Standing {
     let mut marks = [0u32; 1920];
     let count = flood::number_cells(e, structure, frame, times(now.fed, e.width), &mut marks);
@@ -178,7 +178,7 @@ fn all_calls(
     list: &mut [usize; 256],
     count: usize,
     wanted: &mut [u64; 16384],
-    state: &mut [u64; 40],
+    state: &mut [u64; 48],
 ) -> usize {
     let mut frame = [0u8; 640];
     let mut now = Standing { fed: 0, at: 0 };
@@ -189,7 +189,7 @@ fn all_calls(
 }
 
 // Numbers left over at the end of a list are no call.
-fn say_rest(rest: usize, at: usize, wanted: &mut [u64; 16384], state: &mut [u64; 40]) -> usize {
+fn say_rest(rest: usize, at: usize, wanted: &mut [u64; 16384], state: &mut [u64; 48]) -> usize {
     if rest == 0 {
         return at;
     }
@@ -250,7 +250,7 @@ fn make_alike(
     count: usize,
     wanted: &[u64; 16384],
 ) -> bool {
-    let mut words = [7u32; 3201];
+    let mut words = [7u32; 3841];
     let mut u16s = [0u16; 640];
     let mut i16s = [0i16; 640];
     let mut f32s = [0.0f32; 640];
@@ -292,7 +292,7 @@ fn try_calls(
     cells: &[u8; 640],
     cause: usize,
     x: u64,
-    state: &mut [u64; 40],
+    state: &mut [u64; 48],
 ) {
     let mut list = [0usize; 256];
     let mut wanted = [77u64; 16384];
@@ -340,7 +340,7 @@ fn try_frame(
     structure: [u8; 81],
     cells: &[u8; 640],
     x: u64,
-    state: &mut [u64; 40],
+    state: &mut [u64; 48],
 ) {
     let cause = opening_cause(x);
     let count = samples::power3(shape.rank);
@@ -350,7 +350,7 @@ fn try_frame(
 }
 
 // Some frames have more than 255 groups: a structure of zeros, and 600 cells.
-fn try_list(state: &mut [u64; 40]) {
+fn try_list(state: &mut [u64; 48]) {
     let mut structure = [0u8; 81];
     let mut cells = [0u8; 640];
     let shape = samples::random_frame(state, &mut structure, &mut cells);
@@ -366,13 +366,13 @@ fn try_list(state: &mut [u64; 40]) {
     try_frame(shape, structure, &cells, x, state);
 }
 
-fn try_lists(state: &mut [u64; 40]) {
+fn try_lists(state: &mut [u64; 48]) {
     for i in 0..400usize {
         try_list(state);
     }
 }
 
-fn report(state: &[u64; 40]) {
+fn report(state: &[u64; 48]) {
     tally::report(state, b"lists: #\ncalls: #\n", tally::TRIED);
     tally::report(state, b"openings and calls accepted: #\n", tally::REFUSED);
     tally::report(
@@ -385,7 +385,7 @@ fn report(state: &[u64; 40]) {
 }
 
 fn main() {
-    let mut state = [0u64; 40];
+    let mut state = [0u64; 48];
     state[0] = 88172645463325252;
     try_lists(&mut state);
     report(&state);

@@ -15,7 +15,7 @@ use Rattle.frame.specs.Shape.{size, width, leading}
 use Rattle.frame.specs.Structure.{leftOn}
 use Rattle.frame.specs.ChainRule.{nonzero, edges, groupCount, labels}
 use Rattle.frame.specs.Kinds.{nz, u16, largest, holds, write}
-use Rattle.frame.specs.Memory.{mostRuns, perLine, wordsNeeded}
+use Rattle.frame.specs.Memory.{stride, mostRuns, perLine, wordsNeeded}
 use Rattle.frame.specs.Causes.{badRank, hasZero, tooLarge, lopsided, firstCause, openTests, frameTests, frameCause}
 use Rattle.frame.specs.Plain.{Answer, counted, refused, unless, kept, feeds, groupsOf, figures}
 use Rattle.label.specs.WholeFrame.{frameCauseOf, FramePromise, allFed}
@@ -46,13 +46,14 @@ module _ {w l : ℕ} {structure cells numbers : List ℕ} (r : LabelReady w l st
   most-cells : l * w ≤ 2304
   most-cells = mul-le-mul (r .most-lines) (r .most-width)
 
-  enough : wordsNeeded shape structure ≤ 9265
+  enough : wordsNeeded shape structure ≤ 11569
   unfolding wordsNeeded perLine width size leading
   enough =
       let p : mostRuns (leftOn shape structure) w ≤ w = per-line (leftOn shape structure) w (r .some-width) in
       let q : l * mostRuns (leftOn shape structure) w ≤ 2304 = mul-le-mul (r .most-lines) (le-trans p (r .most-width)) in
-      let e : 4 * (l * 1) * mostRuns (leftOn shape structure) w ≡ 4 * (l * mostRuns (leftOn shape structure) w) =
-      ap (λ (k : ℕ). 4 * k * mostRuns (leftOn shape structure) w) (mul-one l) ∙ mul-assoc 4 l (mostRuns (leftOn shape structure) w) in
+      let e : stride * (l * 1) * mostRuns (leftOn shape structure) w ≡ stride * (l * mostRuns (leftOn shape structure) w) =
+      ap (λ (k : ℕ). stride * k * mostRuns (leftOn shape structure) w) (mul-one l)
+      ∙ mul-assoc stride l (mostRuns (leftOn shape structure) w) in
       omega (arith, e, q, r .most-lines)
 
   not-large : tooLarge shape ≡ false
@@ -74,7 +75,7 @@ module _ {w l : ℕ} {structure cells numbers : List ℕ} (r : LabelReady w l st
   abbrev uneven : Bool
   uneven = lopsided 2 structure
 
-  only-12 : (memory c o n : ℕ) → memory ≡ 9265 → c ≡ l * w → o ≡ l * w → n ≤ size shape
+  only-12 : (memory c o n : ℕ) → memory ≡ 11569 → c ≡ l * w → o ≡ l * w → n ≤ size shape
       → frameCause shape structure memory c o (holds u16 n) ≡ cond uneven 12 0
   unfolding frameCause frameTests openTests firstCause badRank
   only-12 memory c o n m x y h =
@@ -87,7 +88,7 @@ module _ {w l : ℕ} {structure cells numbers : List ℕ} (r : LabelReady w l st
   abbrev bs : List Bool
   bs = map nz cells
 
-  pub labels-done : (words : List ℕ) {words′ : List ℕ} {a : Answer} {numbers′ : List ℕ} → length words ≡ 9265
+  pub labels-done : (words : List ℕ) {words′ : List ℕ} {a : Answer} {numbers′ : List ℕ} → length words ≡ 11569
       → FramePromise u16 shape structure words bs numbers a words′ numbers′ → Labels shape structure bs a numbers′
   unfolding frameCauseOf groupsOf figures feeds unless kept
   labels-done words m p =

@@ -322,7 +322,7 @@ fn label_into(
     ensures { λ r. ⌜ Labels (lines ∷ width ∷ []) (now (structure .entry)) (map nz (now (cells .entry)))
         (readAnswer r) (now (numbers .exit)) ⌝ }
 {
-    let mut words = [0u32; 9265];
+    let mut words = [0u32; 11569];
     let shape = [lines, width];
     whole::label_impl_u8_u16(&shape, structure, &mut words, cells, numbers, 1)
 }

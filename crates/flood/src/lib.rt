@@ -337,3 +337,21 @@ pub fn count_cells(marks: &[u32; 1920], fed: usize, sizes: &mut [u32]) {
         put(sizes, at, size);
     }
 }
+
+// ---- groups united
+
+// The number that a cell gets where groups a and b are one, and a is the smaller.
+fn united_number(number: u32, a: u32, b: u32) -> u32 {
+    if number == b {
+        return a;
+    }
+    std::num::wrapping_sub_u32(number, (number > b) as u32)
+}
+
+// Gives the cells and the runs the numbers that they have where groups a and b are one, a being the smaller.
+pub fn unite_numbers(marks: &mut [u32; 1920], a: u32, b: u32) {
+    for i in 0..1920 {
+        let number = get(marks, i);
+        put(marks, i, united_number(number, a, b));
+    }
+}

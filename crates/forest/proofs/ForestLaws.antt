@@ -8,11 +8,11 @@ use Prim.Native.Nat.{ℕ, zero, suc, _+_, _-_, _≤_, _<_}
 use native.Mathlib.Decide.{ℕ-discrete, le-ind}
 use native.Mathlib.Nat.{le-refl, le-trans, le-antisymm, not-suc-le-zero, lt-of-le-of-lt}
 use native.Mathlib.Omega.{arith}
-use borrow.Author.Tests.{ne-eqb, ltb-true, ltb-false}
+use borrow.Author.Tests.{eq-eqb, ne-eqb, ltb-true, ltb-false}
 use lib.Dec.{eqb, ltb}
 use Rattle.groups.specs.Groups.{one, more, Edge, Linked, rep, isRoot, count, groups, joins}
 use Rattle.groups.specs.Numbers.{number}
-use Rattle.groups.proofs.CountLaws.{count-same, count-all}
+use Rattle.groups.proofs.CountLaws.{count-same, count-less, count-all}
 use Rattle.groups.proofs.RepLaws.{rep-le, rep-linked, rep-rep, rep-least, Ends, ends-all, rep-outside}
 use Rattle.groups.proofs.GroupLaws.{groups-joins, all-live}
 use Rattle.forest.specs.Forest.{up, rootOf, own, roots, nonRoots, numberIn, grouping}
@@ -96,6 +96,32 @@ module _ (p : ℕ → ℕ) where
         go : Dec (p r ≡ r) → eqb (p r) r ≡ eqb (rootOf p r) r
         go (yes e) = cc (root-stays r e)
         go (no e) = ne-eqb _ _ e ∙ sym (ne-eqb _ _ (λ q. e (subst (λ (s : ℕ). p s ≡ s) q (root-root r h))))
+
+    -- a root's number is that of its group's runs, and of no others
+    pub number-root : (r s : ℕ) → r < n → s < n → p r ≡ r → eqb (numberIn p s) (numberIn p r) ≡ eqb (rootOf p s) r
+    unfolding numberIn roots
+    number-root r s hr hs e = go (ltb (rootOf p s) r) refl (ltb r (rootOf p s)) refl
+      where
+        self : rootOf p r ≡ r
+        self = root-stays r e
+
+        less : (a b : ℕ) → a < b → p b ≡ b → count (own p) (suc a) < count (own p) (suc b)
+        less a b l q = count-less (own p) a b l (unfold own in eq-eqb (p b) b q)
+
+        go : (x : Bool) → ltb (rootOf p s) r ≡ x → (y : Bool) → ltb r (rootOf p s) ≡ y
+            → eqb (count (own p) (suc (rootOf p s))) (count (own p) (suc (rootOf p r))) ≡ eqb (rootOf p s) r
+        go true x y z =
+            let l = ltb-true (rootOf p s) r x in
+            rw self (ne-eqb (count (own p) (suc (rootOf p s))) (count (own p) (suc r)) (λ q. omega (arith, less (rootOf p s) r l e))
+            ∙ sym (ne-eqb (rootOf p s) r (λ q. omega arith)))
+        go false x true z =
+            let l = ltb-true r (rootOf p s) z in
+            rw self (ne-eqb (count (own p) (suc (rootOf p s))) (count (own p) (suc r))
+            (λ q. omega (arith, less r (rootOf p s) l (root-root s hs)))
+            ∙ sym (ne-eqb (rootOf p s) r (λ q. omega arith)))
+        go false x false z =
+            let q : rootOf p s ≡ r = omega (arith, ltb-false (rootOf p s) r x, ltb-false r (rootOf p s) z) in
+            rw (self, q) (eq-eqb (count (own p) (suc r)) (count (own p) (suc r)) refl ∙ sym (eq-eqb r r refl))
 
     -- where the roots are the representatives that edges give, the counts and the numbers are those of the edges
     module _ (es : List Edge) (right : (r : ℕ) → r < n → rootOf p r ≡ rep es r) where

@@ -1,4 +1,6 @@
 pub mod ForestLaws
+pub mod SizeLaws
+pub mod SizeListLaws
 pub mod ParentLaws
 pub mod UnionLaws
 pub mod UnitedLaws

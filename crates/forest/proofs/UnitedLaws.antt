@@ -13,10 +13,11 @@ use Rattle.groups.specs.Groups.{Edge, rep, joins, visit}
 use Rattle.groups.proofs.RepLaws.{Ends, rep-same}
 use Rattle.groups.proofs.GroupLaws.{groups-joins, all-live, joins-same}
 use Rattle.groups.proofs.VisitLaws.{visit-append, visit-joined, joined-visit, rep-over, joins-over, ends-visit}
-use Rattle.forest.specs.Forest.{rootOf, roots, grouping}
-use Rattle.forest.specs.Unions.{parentIn, Parents, Union, United}
+use Rattle.forest.specs.Forest.{rootOf, own, roots, grouping, rootSizes}
+use Rattle.forest.specs.Unions.{parentIn, sizeIn, Parents, Sized, Union, United}
 use Rattle.forest.proofs.ForestLaws.{grouping-rep, grouping-rep-all, grouping-ends, roots-groups, roots-grouping}
-use Rattle.forest.proofs.ParentLaws.{kept-refl, kept-trans}
+use Rattle.forest.proofs.SizeLaws.{own-sums, sums-total}
+use Rattle.forest.proofs.ParentLaws.{kept-parents, kept-refl, kept-trans}
 
 -- the grouping that the words hold
 abbrev held : List ℕ → ℕ → List Edge
@@ -29,6 +30,7 @@ module _ (p : List ℕ) (n : ℕ) (P : Parents p n) where
     grouped = λ r h. sym (unfold visit in grouping-rep (parentIn p) n (P .low) r h);
     counted =
         unfold visit in omega arith;
+    sized = λ v S. S;
   }
 
   -- one union
@@ -46,7 +48,21 @@ module _ (p : List ℕ) (n : ℕ) (P : Parents p n) where
         go false = refl
 
     pub joined-united : United p q n (e ∷ []) (cond t 1 0)
-    joined-united = record { kept = J .kept; grouped = λ r h. (unfold visit in J .grouped r h); counted = unfold visit in joins-told }
+    joined-united = record {
+      kept = J .kept;
+      grouped = λ r h. (unfold visit in J .grouped r h);
+      counted = unfold visit in joins-told;
+      sized = J .sized;
+    }
+
+  -- the sum of the roots' sizes stands
+  pub united-sizes : (q : List ℕ) (es : List Edge) (t : ℕ) → United p q n es t
+      → rootSizes (parentIn q) (sizeIn q) n ≡ rootSizes (parentIn p) (sizeIn p) n
+  united-sizes q es t U =
+      let v : ℕ → ℕ = λ r. cond (own (parentIn p) r) (sizeIn p r) 0 in
+      let S = own-sums (parentIn p) (sizeIn p) n (P .low) in
+      sums-total (parentIn q) (sizeIn q) n (U .kept .low) (λ r. cond (own (parentIn p) r) (sizeIn p r) 0) (U .sized _ S)
+      ∙ sym (sums-total (parentIn p) (sizeIn p) n (P .low) (λ r. cond (own (parentIn p) r) (sizeIn p r) 0) S)
 
   -- unions along es, whose ends are these runs
   module _ (q : List ℕ) (es : List Edge) (t : ℕ) (w : Ends (λ r. r < n) es) (U : United p q n es t) where
@@ -66,6 +82,7 @@ module _ (p : List ℕ) (n : ℕ) (P : Parents p n) where
         U .counted,
         W .counted,
       ));
+      sized = λ v S. W .sized v (U .sized v S);
     }
       where
         same : (a : ℕ) → rep (held q n) a ≡ rep (visit es (held p n)) a
@@ -89,6 +106,7 @@ module _ (p : List ℕ) (n : ℕ) (P : Parents p n) where
           U .counted
           ∙ joins-same n (visit es (held p n)) (visit fs (held p n)) visit-ends
           (ends-visit (λ r. r < n) fs (held p n) v (grouping-ends (parentIn p) n (P .low))) (over es fs f) (over fs es g);
+      sized = U .sized;
     }
       where
         old : List Edge
@@ -115,3 +133,10 @@ module _ (p : List ℕ) (n : ℕ) (P : Parents p n) where
 
         over : (xs ys : List Edge) → Within xs ys → Within (visit xs old) (visit ys old)
         over xs ys k a b h = joined-visit ys old a b (part xs ys k a b (visit-joined xs old a b h))
+
+-- so no union overflows after others either
+pub united-sized : (p q : List ℕ) (n : ℕ) (es : List Edge) (t : ℕ) → Sized p n → United p q n es t → Sized q n
+united-sized p q n es t S U = record {
+  parents = kept-parents p q n (S .parents) (U .kept);
+  small = omega (arith, S .small, united-sizes p n (S .parents) q es t U);
+}

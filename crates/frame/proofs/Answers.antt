@@ -54,14 +54,14 @@ order =
     ∷ sizesCause false 3 2
     ∷ sizesCause true 3 2
     ∷ sizesCause true 2 2
-    ∷ frameCause (0 ∷ 3 ∷ []) (1 ∷ []) 27 8 8 (holds u8 256)
-    ∷ frameCause (0 ∷ 3 ∷ []) (0 ∷ replicate 8 1) 27 8 8 (holds u8 256)
-    ∷ frameCause (0 ∷ 3 ∷ []) (2 ∷ replicate 8 1) 27 8 8 (holds u8 256)
-    ∷ frameCause (3 ∷ 3 ∷ []) (replicate 9 1) 27 8 8 (holds u8 256)
-    ∷ frameCause (3 ∷ 3 ∷ []) (replicate 9 1) 28 8 8 (holds u8 256)
-    ∷ frameCause (3 ∷ 3 ∷ []) (replicate 9 1) 28 9 8 (holds u8 256)
-    ∷ frameCause (3 ∷ 3 ∷ []) (replicate 9 1) 28 9 9 (holds u8 256)
-    ∷ frameCause (3 ∷ 3 ∷ []) (replicate 9 1) 28 9 9 (holds u8 255)
+    ∷ frameCause (0 ∷ 3 ∷ []) (1 ∷ []) 33 8 8 (holds u8 256)
+    ∷ frameCause (0 ∷ 3 ∷ []) (0 ∷ replicate 8 1) 33 8 8 (holds u8 256)
+    ∷ frameCause (0 ∷ 3 ∷ []) (2 ∷ replicate 8 1) 33 8 8 (holds u8 256)
+    ∷ frameCause (3 ∷ 3 ∷ []) (replicate 9 1) 33 8 8 (holds u8 256)
+    ∷ frameCause (3 ∷ 3 ∷ []) (replicate 9 1) 34 8 8 (holds u8 256)
+    ∷ frameCause (3 ∷ 3 ∷ []) (replicate 9 1) 34 9 8 (holds u8 256)
+    ∷ frameCause (3 ∷ 3 ∷ []) (replicate 9 1) 34 9 9 (holds u8 256)
+    ∷ frameCause (3 ∷ 3 ∷ []) (replicate 9 1) 34 9 9 (holds u8 255)
     ∷ []
 
 order-right : order ≡ 6 ∷ 7 ∷ 8 ∷ 0 ∷ 6 ∷ 9 ∷ 10 ∷ 0 ∷ 10 ∷ 0 ∷ 10 ∷ 0 ∷ 6 ∷ 9 ∷ 0 ∷ 2 ∷ 12 ∷ 3 ∷ 5 ∷ 8 ∷ 9 ∷ 10 ∷ 0 ∷ []

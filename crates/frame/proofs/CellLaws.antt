@@ -8,11 +8,12 @@ use native.Mathlib.Nat.{le-refl, le-trans, zero-mul, suc-mul}
 use native.Mathlib.Omega.{arith}
 use lib.ListN.{length, getD, take, drop, take-append-drop}
 use lib.Seq.{take-all, take-nil}
+use Rattle.groups.specs.Groups.{sumOver}
 use Rattle.groups.proofs.CountLaws.{count-none, count-front, count-most}
 use Rattle.frame.specs.Shape.{width, lines}
 use Rattle.frame.specs.Structure.{leftOn}
 use Rattle.frame.specs.ChainRule.{nonzero}
-use Rattle.frame.specs.Runs.{nonzeroCells, Run, none, runLengths, stretches, singles, lineRuns, lineOf}
+use Rattle.frame.specs.Runs.{nonzeroCells, Run, none, runLength, runLengths, stretches, singles, lineRuns, lineOf}
 use Rattle.frame.specs.Runs.{frameRuns, runsBefore, frameRun}
 use Rattle.frame.proofs.ShapeLaws.{Fits}
 use Rattle.frame.proofs.FrameRunLaws.{start-zero, start-suc, run-at}
@@ -60,6 +61,11 @@ cells-line w i l =
 lengths-zero : (f : ℕ → Run) → runLengths f 0 ≡ 0
 unfolding runLengths
 lengths-zero f = refl
+
+pub lengths-sum : (f : ℕ → Run) (n : ℕ) → sumOver (λ r. true) (λ r. runLength (f r)) n ≡ runLengths f n
+unfolding runLengths sumOver
+lengths-sum f zero = refl
+lengths-sum f (suc n) = omega (arith, lengths-sum f n)
 
 pub lengths-same : (f g : ℕ → Run) (n : ℕ) → ((r : ℕ) → r < n → f r ≡ g r) → runLengths f n ≡ runLengths g n
 unfolding runLengths

@@ -89,7 +89,7 @@ nine =
     record {
       shape = 3 ∷ 3 ∷ [];
       structure = C;
-      memory = 28;
+      memory = 34;
       calls = feed 1 (u8s (d 3 101)) ∷ read u8 (o 9) ∷ feed 1 (u8s (d 3 101)) ∷ read u8 (o 9) ∷ feed 1 (u8s (d 3 111)) ∷ read u8 (o 9) ∷ [];
       answers = fedAll 1 2 0 2 ∷ got u8 2 2 0 2 (d 9 102000000) ∷ fedAll 2 4 2 4 ∷ got u8 2 4 2 4 (d 9 102102000)
           ∷ fedAll 3 5 4 7 ∷ got u8 1 5 4 7 (d 9 101101111) ∷ [];
@@ -109,7 +109,7 @@ nine =
     ∷ record {
       shape = 4 ∷ [];
       structure = d 3 111;
-      memory = 10;
+      memory = 12;
       calls = feed 1 (f32s (fin true 0 (pos 0) ∷ nan ∷ fin false 0 (pos 0) ∷ fin false 1 (pos 0) ∷ [])) ∷ read u8 (o 4) ∷ [];
       answers = fedAll 1 2 0 2 ∷ got u8 2 2 0 2 (d 4 102) ∷ [];
     }
@@ -120,8 +120,8 @@ nine =
     ∷ whole (2 ∷ 1 ∷ 2 ∷ []) (replicate 27 1) (d 4 1001) 1 2 1 2 (d 4 1001)
     ∷ whole (2 ∷ 1 ∷ 2 ∷ []) (d 27 10000010101010000010000) (d 4 1001) 2 2 0 2 (d 4 1002)
     -- 9
-    ∷ opening (3 ∷ 3 ∷ []) C 28 []
-    ∷ opening (3 ∷ 3 ∷ []) C 27 (no 5 ∷ [])
+    ∷ opening (3 ∷ 3 ∷ []) C 34 []
+    ∷ opening (3 ∷ 3 ∷ []) C 33 (no 5 ∷ [])
     ∷ []
 
 -- ---- frames that catch the slips of this trade. Backward taken as forward shows of a lopsided structure alone: proofs/Answers.antt has it
@@ -155,7 +155,7 @@ refusals =
     ∷ opening (2147483647 ∷ []) (d 3 1) 0 (no 12 ∷ [])
     ∷ opening (0 ∷ []) (d 3 100) 10 (no 12 ∷ [])
     ∷ opening (1 ∷ 1 ∷ 1 ∷ 1 ∷ []) (replicate 80 1 ++ 0 ∷ []) 10 (no 12 ∷ [])
-    ∷ opening (3 ∷ []) (d 3 207) 10 []
+    ∷ opening (3 ∷ []) (d 3 207) 12 []
     ∷ opening (4294967293 ∷ 0 ∷ 3 ∷ []) (replicate 27 1) 0 (no 3 ∷ [])
     ∷ opening (0 ∷ 2147483647 ∷ []) C 0 (no 3 ∷ [])
     ∷ opening (2147483647 ∷ []) (d 3 111) 0 (no 4 ∷ [])
@@ -169,7 +169,7 @@ refusals =
     ∷ record {
       shape = 3 ∷ 2 ∷ [];
       structure = C;
-      memory = 16;
+      memory = 19;
       calls =
           feed 4 (u8s (d 1 1))
           ∷ feed 1 (u8s (d 1 1))

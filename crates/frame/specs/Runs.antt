@@ -55,10 +55,14 @@ none = record { start = 0; end = 0 }
 abbrev pub Covers : Run → ℕ → Type 0
 Covers r x = (r .start ≤ x) × (x < r .end)
 
+-- how many cells it has
+abbrev pub runLength : Run → ℕ
+runLength r = r .end - r .start
+
 -- the sum of the lengths of the first n runs, where `run` gives each by its number from 0
 unfoldable pub runLengths : (ℕ → Run) → ℕ → ℕ
 runLengths run zero = 0
-runLengths run (suc n) = (run n .end - run n .start) + runLengths run n
+runLengths run (suc n) = runLength (run n) + runLengths run n
 
 -- the maximal stretches from column x on, where l has the flags from x on. The first argument says whether column x - 1 is in
 -- a run, and s is then that run's start

@@ -37,12 +37,14 @@ impl Figures {
     }
 }
 
-// Each run has STRIDE words. Counted from its first, which holds its start, END holds its end (one past), PARENT its parent and NAME
-// its name: specs/Words.antt.
-pub const STRIDE: usize = 4;
+// Each run has STRIDE words. Counted from its first, which holds its start, END holds its end (one past), PARENT its parent, NAME its
+// name and SIZE, at a root, its group's cell count: specs/Words.antt.
+pub const STRIDE: usize = 5;
 
 pub const END: usize = 1;
 
 pub const PARENT: usize = 2;
 
 pub const NAME: usize = 3;
+
+pub const SIZE: usize = 4;

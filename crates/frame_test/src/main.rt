@@ -1,5 +1,5 @@
-// Whole frames at run time, for every block count from 0 to one more than the lines, against a plain labelling by flood fill; and the same
-// frames with lopsided structures, which are refused.
+// Whole frames at run time, for every block count from 0 to one more than the lines, against a plain labelling by flood fill: answers,
+// numbers, and every word, among them the size of each root; and the same frames with lopsided structures, which are refused.
 use flood::Extent;
 use flood::layout;
 use flood::less;
@@ -35,10 +35,10 @@ fn right_answer(call: Call, exact: usize, count: flood::Count) -> Answer {
     answers::accepted(count.n, count)
 }
 
-// The words that it should leave, but for parents: a frame refused with 8 or 9 leaves them as they were, one refused with 10 as after
-// feeding; else the runs have names.
+// The words that it should leave, but for parents and sizes: a frame refused with 8 or 9 leaves them as they were, one refused with 10 as
+// after feeding; else the runs have names.
 fn lay(
-    laid: &mut [u32; 3201],
+    laid: &mut [u32; 3841],
     e: Extent,
     flags: &[u8],
     marks: &[u32; 1920],
@@ -52,16 +52,17 @@ fn lay(
     layout::lay_names(laid, e, marks, times(runs, (cause == 0) as usize));
 }
 
-// Whether the parents are such as they should be: of so many runs in so many groups. `laid` takes them.
+// Whether the parents are such as they should be: of so many runs in so many groups. `laid` takes them, and the right size of each root.
 fn parents_fit(
-    laid: &mut [u32; 3201],
-    words: &[u32; 3201],
+    laid: &mut [u32; 3841],
+    words: &[u32; 3841],
     marks: &[u32; 1920],
+    sizes: &[u32; 640],
     e: Extent,
     runs: usize,
     n: usize,
 ) -> bool {
-    layout::take_parents(laid, words, marks, e, runs) == less(runs, n)
+    layout::take_groups(laid, words, marks, e, runs, sizes) == less(runs, n)
 }
 
 // One block count. Whether words, output and answer are as they should be; `fed` are the runs that are in the words then, `n` their groups.
@@ -71,12 +72,13 @@ fn try_blocks(
     flags: &[u8],
     call: Call,
     blocks: usize,
-    laid: &mut [u32; 3201],
+    laid: &mut [u32; 3841],
     marks: &[u32; 1920],
+    sizes: &[u32; 640],
     right: Answer,
     fed: flood::Count,
 ) -> bool {
-    let mut words = [7u32; 3201];
+    let mut words = [7u32; 3841];
     let mut got = [171u32; 640];
     let e = flood::extent_of(shape, structure);
     let lent = samples::lend_u32(&mut words, layout::words_needed(e));
@@ -91,7 +93,7 @@ fn try_blocks(
         blocks,
         &mut got,
     );
-    let joined = parents_fit(laid, &words, marks, e, fed.runs, fed.n);
+    let joined = parents_fit(laid, &words, marks, sizes, e, fed.runs, fed.n);
     let written = times(call.places, (right.number == 0) as usize);
     joined
         & answers::same(said, right)
@@ -105,11 +107,12 @@ fn try_all_blocks(
     flags: &[u8],
     call: Call,
     lines: usize,
-    laid: &mut [u32; 3201],
+    laid: &mut [u32; 3841],
     marks: &[u32; 1920],
+    sizes: &[u32; 640],
     right: Answer,
     fed: flood::Count,
-    state: &mut [u64; 40],
+    state: &mut [u64; 48],
 ) {
     for blocks in 0..plus(lines, 2) {
         let agreed = try_blocks(
@@ -120,6 +123,7 @@ fn try_all_blocks(
             blocks,
             laid,
             marks,
+            sizes,
             right,
             fed,
         );
@@ -145,13 +149,15 @@ fn try_call(
     structure: &[u8],
     flags: &[u8; 640],
     call: Call,
-    state: &mut [u64; 40],
+    state: &mut [u64; 48],
 ) {
-    let mut laid = [7u32; 3201];
+    let mut laid = [7u32; 3841];
     let mut marks = [0u32; 1920];
+    let mut sizes = [0u32; 640];
     let e = flood::extent_of(shape, structure);
     let exact = times(e.lines, e.width);
     let all = flood::number_cells(e, structure, flags, exact, &mut marks);
+    flood::count_cells(&marks, exact, &mut sizes);
     let right = right_answer(call, exact, all);
     let fed = fed_by(right.number, all);
     lay(&mut laid, e, flags, &marks, all.runs, right.number);
@@ -163,6 +169,7 @@ fn try_call(
         e.lines,
         &mut laid,
         &marks,
+        &sizes,
         right,
         fed,
         state,
@@ -175,10 +182,11 @@ fn try_lopsided(
     structure: &[u8],
     flags: &[u8; 640],
     call: Call,
-    state: &mut [u64; 40],
+    state: &mut [u64; 48],
 ) {
-    let mut laid = [7u32; 3201];
+    let mut laid = [7u32; 3841];
     let marks = [0u32; 1920];
+    let sizes = [0u32; 640];
     let none = flood::Count {
         n: 0,
         runs: 0,
@@ -194,6 +202,7 @@ fn try_lopsided(
         blocks,
         &mut laid,
         &marks,
+        &sizes,
         right,
         none,
     );
@@ -209,7 +218,7 @@ fn draw(exact: usize, x: u64) -> Call {
     }
 }
 
-fn try_frame(state: &mut [u64; 40]) {
+fn try_frame(state: &mut [u64; 48]) {
     let mut structure = [0u8; 81];
     let mut flags = [0u8; 640];
     let shape = samples::random_frame(state, &mut structure, &mut flags);
@@ -225,7 +234,7 @@ fn try_frame(state: &mut [u64; 40]) {
     try_lopsided(used, samples::first(&lopsided, count), &flags, call, state);
 }
 
-fn try_frames(state: &mut [u64; 40]) {
+fn try_frames(state: &mut [u64; 48]) {
     for i in 0..4000usize {
         try_frame(state);
     }
@@ -234,7 +243,7 @@ fn try_frames(state: &mut [u64; 40]) {
 // ---- fixed cases
 
 // A line of so many cells, every other nonzero, from u8 into a kind of numbers.
-fn try_lone(width: usize, kind: usize, state: &mut [u64; 40]) {
+fn try_lone(width: usize, kind: usize, state: &mut [u64; 48]) {
     let mut flags = [0u8; 640];
     samples::make_lone(&mut flags);
     let call = Call {
@@ -246,7 +255,7 @@ fn try_lone(width: usize, kind: usize, state: &mut [u64; 40]) {
 }
 
 fn main() {
-    let mut state = [0u64; 40];
+    let mut state = [0u64; 48];
     state[0] = 88172645463325252;
     try_lone(509, 0, &mut state);
     try_lone(509, 1, &mut state);
@@ -256,7 +265,7 @@ fn main() {
     report(&state);
 }
 
-fn report(state: &[u64; 40]) {
+fn report(state: &[u64; 48]) {
     tally::report(
         state,
         b"whole frames, one for each block count: #\n",

@@ -56,8 +56,8 @@ module _ (g : Geo) where
         cells = leb-false 4294967293 (g .lines * g .width) (f .2);
       }
 
-  -- no more than four words for each cell
-  pub words-fit : WithinLimits g → (h : ℕ) → h ≡ mostRuns (g .left) (g .width) → stride * g .lines * h < 17179869172
+  -- no more than one run's words for each cell
+  pub words-fit : WithinLimits g → (h : ℕ) → h ≡ mostRuns (g .left) (g .width) → stride * g .lines * h < stride * 4294967293
   words-fit W h is =
       let few = mul-le-mul-left (g .lines) (most-runs-le (g .left) (g .width)) in
       rw (is, mul-assoc stride (g .lines) (mostRuns (g .left) (g .width))) (omega (arith, few, W .cells))

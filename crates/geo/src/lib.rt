@@ -64,7 +64,7 @@ pub fn no_geo() -> Geo {
     }
 }
 
-// L + 1 + 4 × L × h.
+// L + 1 + 5 × L × h.
 pub fn words_needed(g: Geo) -> usize
     requires { ⌜ WithinLimits g ⌝ }
     ensures { λ r. ⌜ r ≡ wordsOf g ⌝ }

@@ -9,3 +9,4 @@ pub mod GroupLaws
 pub mod VisitLaws
 pub mod NumberLaws
 pub mod QuotientLaws
+pub mod SumLaws

@@ -1,6 +1,6 @@
 -- Edges visited one after the other: their order does not matter, and of those before only the grouping does.
 -- Assumes nothing.
-use mathlib.Core.Path.{_≡_, refl}
+use mathlib.Core.Path.{_≡_, refl, sym, ap, _∙_}
 use mathlib.Core.Logic.{_⊎_, inl, inr}
 use mathlib.Core.Bool.{cond}
 use mathlib.Core.List.{List, [], _∷_, _++_, List·Memᴰ, List·Memᴰ·head, List·Memᴰ·tail, List·Memᴰ·not-nil, List·Memᴰ·cases-cons}
@@ -8,8 +8,8 @@ use mathlib.Core.List.{List·Memᴰ·append-cases, Memᴰ·append-left, Memᴰ·
 use Prim.Native.Nat.{ℕ, _+_}
 use native.Mathlib.Omega.{arith}
 use lib.Dec.{eqb}
-use Rattle.groups.specs.Groups.{Edge, Joined, rep, joins, visit}
-use Rattle.groups.proofs.RepLaws.{Ends}
+use Rattle.groups.specs.Groups.{Edge, Joined, merge, rep, joins, visit}
+use Rattle.groups.proofs.RepLaws.{Ends, rep-rep}
 
 pub visit-append : (xs ys old : List Edge) → visit (xs ++ ys) old ≡ visit ys (visit xs old)
 unfolding visit
@@ -94,3 +94,14 @@ pub ends-visit : (P : ℕ → Type 0) (es old : List Edge) → Ends P es → End
 unfolding visit
 ends-visit P [] old w v = v
 ends-visit P (e ∷ es) old w v = ends-visit P es (e ∷ old) (w .2) (w .0, w .1, v)
+
+-- a node and its representative before have one representative afterwards
+pub rep-still : (es old : List Edge) (a : ℕ) → rep (visit es old) (rep old a) ≡ rep (visit es old) a
+unfolding visit
+rep-still [] old a = rep-rep old a
+rep-still (e ∷ es) old a =
+    let same : rep (e ∷ old) (rep old a) ≡ rep (e ∷ old) a =
+    unfold rep in ap (merge (rep old (e .from)) (rep old (e .to))) (rep-rep old a) in
+    let here = rep-still es (e ∷ old) (rep old a) in
+    let there = rep-still es (e ∷ old) a in
+    sym here ∙ ap (rep (visit es (e ∷ old))) same ∙ there

@@ -43,6 +43,15 @@ unfoldable pub count : (ℕ → Bool) → ℕ → ℕ
 count f zero = 0
 count f (suc n) = cond (f n) 1 0 + count f n
 
+-- the sum of v over the numbers below n that pass a test
+unfoldable pub sumOver : (ℕ → Bool) → (ℕ → ℕ) → ℕ → ℕ
+sumOver f v zero = 0
+sumOver f v (suc n) = cond (f n) (v n) 0 + sumOver f v n
+
+-- so over the group that r represents, where `root` gives the representative of each node
+unfoldable pub groupSum : (ℕ → ℕ) → (ℕ → ℕ) → ℕ → ℕ → ℕ
+groupSum root v n r = sumOver (λ s. eqb (root s) r) v n
+
 -- how many groups the live nodes below n make
 unfoldable pub groups : (ℕ → Bool) → List Edge → ℕ → ℕ
 groups live es n = count (λ a. live a && isRoot es a) n

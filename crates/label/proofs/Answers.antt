@@ -1,10 +1,11 @@
 -- The calls worked out on small frames: what they answer and write, and which records are sound.
 -- Assumes nothing.
 use mathlib.Core.Path.{_≡_, refl}
-use mathlib.Core.Bool.{true, false}
+use mathlib.Core.Bool.{Bool, true, false}
 use mathlib.Core.List.{List, [], _∷_, _++_, map}
-use Prim.Native.Nat.{ℕ}
+use Prim.Native.Nat.{ℕ, _-_}
 use lib.ListN.{set, replicate, take}
+use Rattle.frame.specs.Words.{startPlace, endPlace, parentPlace, namePlace, sizePlace}
 use Rattle.frame.specs.Kinds.{u16, u32, u8}
 use Rattle.frame.specs.Plain.{Answer, fed, counted, refused}
 use Rattle.causes.specs.declared.Cause.the-variants as C
@@ -19,7 +20,7 @@ use Rattle.label.specs.Opening.{openRecord, blank}
 use Rattle.label.specs.WholeFrame.{chop, blockLines, blocks}
 use Rattle.label.proofs.CallFunctions.{FeedResult, ReadResult, doOpen, doFeed, doRead, doSizes, doFrame}
 use Rattle.label.proofs.Worked.{computed, frame, cross, memory, line, whole, f, begun, one, two, three, junk, wide, wideWords, put}
-use Rattle.label.proofs.Worked.{held}
+use Rattle.label.proofs.Worked.{held, row, sized, together}
 
 -- ---- the documents' numbers and values
 
@@ -47,7 +48,7 @@ opens-right : begun
         fed = 0;
         figures = f 0 0 0;
       };
-      words = 0 ∷ replicate 27 7;
+      words = 0 ∷ replicate 33 7;
     }
 unfolding begun computed
 opens-right = refl
@@ -56,28 +57,34 @@ answers-right : one .said ∷ two .said ∷ three .said ∷ [] ≡ fed 1 (f 2 0 
 unfolding begun one two three computed
 answers-right = refl
 
--- four line starts, then start, end, parent and name of each run; no name is written
+-- four line starts, then the words of each run; no name is written. At a root the size is its group's count of cells, elsewhere it is free
 words-right : three .words
-    ≡ 0 ∷ 2 ∷ 4 ∷ 5 ∷ 0 ∷ 1 ∷ 0 ∷ 7 ∷ 2 ∷ 3 ∷ 0 ∷ 7 ∷ 0 ∷ 1 ∷ 0 ∷ 7 ∷ 2 ∷ 3 ∷ 0 ∷ 7 ∷ 0 ∷ 3 ∷ 0 ∷ 7 ∷ 7 ∷ 7 ∷ 7 ∷ 7 ∷ []
+    ≡ 0 ∷ 2 ∷ 4 ∷ 5 ∷ row 0 1 0 7 7 ++ row 2 3 0 7 0 ++ row 0 1 0 7 0 ++ row 2 3 0 7 0 ++ row 0 3 0 7 0 ++ replicate 5 7
 unfolding begun one two three computed
 words-right = refl
 
 -- after two lines two groups; each run's name becomes its number, and unfed cells get 0
 reading-right : doRead u8 (two .session) (two .words) junk ≡ record {
   said = counted 2 (f 4 2 4);
-  words = 0 ∷ 2 ∷ 4 ∷ 7 ∷ 0 ∷ 1 ∷ 0 ∷ 1 ∷ 2 ∷ 3 ∷ 1 ∷ 2 ∷ 0 ∷ 1 ∷ 0 ∷ 1 ∷ 2 ∷ 3 ∷ 1 ∷ 2 ∷ replicate 8 7;
+  words = 0 ∷ 2 ∷ 4 ∷ 7 ∷ row 0 1 0 1 2 ++ row 2 3 1 2 2 ++ row 0 1 0 1 0 ++ row 2 3 1 2 0 ++ replicate 10 7;
   out = 1 ∷ 0 ∷ 2 ∷ 1 ∷ 0 ∷ 2 ∷ 0 ∷ 0 ∷ 0 ∷ [];
 }
 unfolding begun one two computed
 reading-right = refl
 
-sizes-right : doSizes (three .session) (three .words) (5 ∷ []) .out ≡ 7 ∷ []
+-- after each line; and of a record of other origin, what its roots' words hold
+sizes-right : doSizes (one .session) (one .words) (5 ∷ 5 ∷ []) .out
+    ∷ doSizes (two .session) (two .words) (5 ∷ 5 ∷ []) .out
+    ∷ doSizes (three .session) (three .words) (5 ∷ []) .out
+    ∷ doSizes (two .session) (sized 3 1) (5 ∷ 5 ∷ []) .out
+    ∷ []
+    ≡ (1 ∷ 1 ∷ []) ∷ (2 ∷ 2 ∷ []) ∷ (7 ∷ []) ∷ (3 ∷ 1 ∷ []) ∷ []
 unfolding begun one two three computed
 sizes-right = refl
 
 whole-right : doFrame u16 frame cross memory (line ++ line ++ whole) junk ≡ record {
   said = counted 1 (f 5 4 7);
-  words = 0 ∷ 2 ∷ 4 ∷ 5 ∷ 0 ∷ 1 ∷ 0 ∷ 1 ∷ 2 ∷ 3 ∷ 0 ∷ 1 ∷ 0 ∷ 1 ∷ 0 ∷ 1 ∷ 2 ∷ 3 ∷ 0 ∷ 1 ∷ 0 ∷ 3 ∷ 0 ∷ 1 ∷ replicate 4 7;
+  words = 0 ∷ 2 ∷ 4 ∷ 5 ∷ row 0 1 0 1 7 ++ row 2 3 0 1 0 ++ row 0 1 0 1 0 ++ row 2 3 0 1 0 ++ row 0 3 0 1 0 ++ replicate 5 7;
   out = 1 ∷ 0 ∷ 1 ∷ 1 ∷ 0 ∷ 1 ∷ 1 ∷ 1 ∷ 1 ∷ [];
 }
 unfolding computed
@@ -98,9 +105,9 @@ refusals-right :
     ∷ doSizes (two .session) (two .words) (replicate 3 5) .said
     -- 256 groups
     ∷ doRead u8 wide wideWords (replicate 256 5) .said
-    -- of a whole frame: a structure with one arm missing, and 27 words; 27 words; eight cells; an output of eight
-    ∷ doFrame u8 frame (set cross 7 0) (replicate 27 7) (line ++ line ++ whole) junk .said
-    ∷ doFrame u8 frame cross (replicate 27 7) (line ++ line ++ whole) junk .said
+    -- of a whole frame: a structure with one arm missing, and 33 words; 33 words; eight cells; an output of eight
+    ∷ doFrame u8 frame (set cross 7 0) (replicate 33 7) (line ++ line ++ whole) junk .said
+    ∷ doFrame u8 frame cross (replicate 33 7) (line ++ line ++ whole) junk .said
     ∷ doFrame u8 frame cross memory (line ++ line ++ take 2 whole) (replicate 8 5) .said
     ∷ doFrame u8 frame cross memory (line ++ line ++ whole) (replicate 8 5) .said
     ∷ []
@@ -129,50 +136,60 @@ structured bytes =
 unsound : List (Session × List ℕ)
 unsound =
     -- rank 0, rank 5
-    (blank, replicate 28 0)
-    ∷ (record { rank = 5; shape = replicate 4 1; structure = replicate 81 0; fed = 0; figures = f 0 0 0 }, replicate 28 0)
+    (blank, replicate 34 0)
+    ∷ (record { rank = 5; shape = replicate 4 1; structure = replicate 81 0; fed = 0; figures = f 0 0 0 }, replicate 34 0)
     -- a leading dimension is 0
-    ∷ (openRecord (0 ∷ 3 ∷ []) cross, replicate 28 0)
+    ∷ (openRecord (0 ∷ 3 ∷ []) cross, replicate 34 0)
     -- w and L at their limits, L × w one above
-    ∷ (openRecord (2147483647 ∷ []) (replicate 3 0), replicate 8589934590 0)
+    ∷ (openRecord (2147483647 ∷ []) (replicate 3 0), replicate 10737418237 0)
     ∷ (openRecord (4294967293 ∷ 0 ∷ []) cross, replicate 4294967294 0)
-    ∷ (openRecord (2147483647 ∷ 2 ∷ []) cross, replicate 10737418236 0)
+    ∷ (openRecord (2147483647 ∷ 2 ∷ []) cross, replicate 12884901883 0)
     -- document 02's: a lopsided structure
     ∷ (structured (set cross 7 0), two .words)
-    -- 27 words
-    ∷ (two .session, take 27 (two .words))
+    -- 33 words
+    ∷ (two .session, take 33 (two .words))
     -- four lines fed
-    ∷ (held 4 0 0 0, replicate 28 0)
+    ∷ (held 4 0 0 0, replicate 34 0)
     -- word 0 is 1
     ∷ (two .session, put 0 1)
     -- line 2 starts below line 1
-    ∷ (held 2 1 0 1, put 2 1)
+    ∷ (held 2 1 0 1, set (put 2 1) (sizePlace 3 0) 1)
     -- word 2 is not the count of runs
     ∷ (two .session, put 2 3)
-    ∷ (held 2 3 1 3, two .words)
+    ∷ (held 2 3 1 3, sized 2 1)
     -- three runs in a line: that many cannot stand in order either
     ∷ (two .session, put 1 3)
     -- run 1 is [2, 2); it is [2, 4)
-    ∷ (held 2 4 2 3, put 9 2)
-    ∷ (held 2 4 2 5, put 9 4)
+    ∷ (held 2 4 2 3, set (sized 2 1) (endPlace 3 1) 2)
+    ∷ (held 2 4 2 5, set (sized 2 3) (endPlace 3 1) 4)
     -- runs 0 and 1 are [0, 2) and [1, 3); [2, 3) and [0, 1); [0, 2) and [2, 3)
-    ∷ (held 2 4 2 6, set (put 5 2) 8 1)
-    ∷ (two .session, set (set (set (put 4 2) 5 3) 8 0) 9 1)
-    ∷ (held 2 4 2 5, put 5 2)
+    ∷ (held 2 4 2 6, set (set (sized 3 3) (endPlace 3 0) 2) (startPlace 3 1) 1)
+    ∷ (
+      two .session,
+      set (set (set (put (startPlace 3 0) 2) (endPlace 3 0) 3) (startPlace 3 1) 0) (endPlace 3 1) 1,
+    )
+    ∷ (held 2 4 2 5, set (sized 3 2) (endPlace 3 0) 2)
     -- with the left byte zero they are [0, 1) and [1, 3); [0, 1) and [0, 1)
-    ∷ (apart 2 3, 0 ∷ 2 ∷ 0 ∷ 1 ∷ 0 ∷ 7 ∷ 1 ∷ 3 ∷ 1 ∷ 7 ∷ replicate 4 7)
-    ∷ (apart 2 2, 0 ∷ 2 ∷ 0 ∷ 1 ∷ 0 ∷ 7 ∷ 0 ∷ 1 ∷ 1 ∷ 7 ∷ replicate 4 7)
+    ∷ (apart 2 3, 0 ∷ 2 ∷ row 0 1 0 7 1 ++ row 1 3 1 7 2 ++ replicate 5 7)
+    ∷ (apart 2 2, 0 ∷ 2 ∷ row 0 1 0 7 1 ++ row 0 1 1 7 1 ++ replicate 5 7)
     -- run 0 has parent 1
-    ∷ (held 2 4 3 4, put 6 1)
+    ∷ (held 2 4 3 4, set (sized 0 4) (parentPlace 3 0) 1)
     -- joins are one too many, one too few
     ∷ (held 2 4 3 4, two .words)
     ∷ (held 2 4 1 4, two .words)
-    -- document 02's: the total is one too many, one too few, 2^32 too many; a run is longer than the total says; no line is fed
-    ∷ (held 2 4 2 5, two .words)
-    ∷ (held 2 4 2 3, two .words)
-    ∷ (held 2 4 2 4294967300, two .words)
-    ∷ (held 3 5 4 7, set (three .words) 21 2)
+    -- document 02's: the total is one too many, one too few, 2^32 too many; a run is longer than the total says; no line is fed, and there
+    -- is no root either
+    ∷ (held 2 4 2 5, sized 2 3)
+    ∷ (held 2 4 2 3, sized 2 1)
+    ∷ (held 2 4 2 4294967300, sized 2147483650 2147483650)
+    ∷ (held 3 5 4 7, set (three .words) (endPlace 3 4) 2)
     ∷ (held 0 0 0 1, begun .words)
+    -- document 02's: the roots' fifth words are together one too many, one too few, 2^32 too many; with those of the other runs they would
+    -- be right
+    ∷ (two .session, sized 3 2)
+    ∷ (two .session, sized 2 1)
+    ∷ (two .session, sized 2147483650 2147483650)
+    ∷ (two .session, set (sized 2 1) (sizePlace 3 2) 1)
     ∷ []
 
 -- sound records: those after an opening and after feeds, and others
@@ -185,8 +202,8 @@ accepted =
     -- a width of 0
     ∷ (openRecord (2 ∷ 0 ∷ []) cross, 0 ∷ 7 ∷ 7 ∷ [])
     -- another name; a word of a line or of a run to come; more words than needed
-    ∷ (two .session, put 7 9)
-    ∷ (two .session, set (put 3 9) 20 9)
+    ∷ (two .session, put (namePlace 3 0) 9)
+    ∷ (two .session, set (put 3 9) (startPlace 3 4) 9)
     ∷ (two .session, two .words ++ replicate 5 9)
     -- entries past the rank
     ∷ (
@@ -202,19 +219,22 @@ accepted =
     -- another nonzero byte on one side
     ∷ (structured (set cross 7 255), two .words)
     -- runs 0 and 1 in one group, which no chain joins; and longer ways to a root
-    ∷ (held 2 4 3 4, put 10 0)
-    ∷ (held 2 4 3 4, set (put 10 0) 18 2)
+    ∷ (held 2 4 3 4, together)
+    ∷ (held 2 4 3 4, set together (parentPlace 3 3) 2)
     -- with the left byte zero, three runs that touch
-    ∷ (apart 3 3, 0 ∷ 3 ∷ 0 ∷ 1 ∷ 0 ∷ 7 ∷ 1 ∷ 2 ∷ 1 ∷ 7 ∷ 2 ∷ 3 ∷ 2 ∷ 7 ∷ [])
+    ∷ (apart 3 3, 0 ∷ 3 ∷ row 0 1 0 7 1 ++ row 1 2 1 7 1 ++ row 2 3 2 7 1)
     -- a run of another length, with the total that is then right
-    ∷ (held 3 5 4 6, set (three .words) 21 2)
+    ∷ (held 3 5 4 6, set (set (three .words) (endPlace 3 4) 2) (sizePlace 3 0) 6)
+    -- the roots' fifth words otherwise than their groups' cells; any word at a run that is no root
+    ∷ (two .session, sized 4 0)
+    ∷ (two .session, put (sizePlace 3 2) 4294967295)
     ∷ []
 
-unsound-right : map (λ x. sound (x .0) (x .1)) unsound ≡ replicate 29 false
+unsound-right : map (λ x. sound (x .0) (x .1)) unsound ≡ replicate 33 false
 unfolding unsound begun one two three computed
 unsound-right = refl
 
-accepted-right : map (λ x. sound (x .0) (x .1)) accepted ≡ replicate 14 true
+accepted-right : map (λ x. sound (x .0) (x .1)) accepted ≡ replicate 16 true
 unfolding accepted begun one two three computed
 accepted-right = refl
 
@@ -222,10 +242,17 @@ accepted-right = refl
 
 -- runs 0 and 1 in one group, where the chain rule makes two: a line that joins neither leaves it one
 other : FeedResult
-other = doFeed (held 2 4 3 4) (put 10 0) 1 line
+other = doFeed (held 2 4 3 4) together 1 line
 
 otherRead : ReadResult ℕ
 otherRead = doRead u8 (other .session) (other .words) junk
+
+-- its roots' words are added, and the new runs' lengths: a line that meets the first group alone, and one that joins both
+others-sized : map (λ (cells : List Bool). let d = doFeed (two .session) (sized 3 1) 1 cells in
+    doSizes (d .session) (d .words) (replicate (d .session .figures .runs - d .session .figures .joins) 5) .out)
+    ((true ∷ false ∷ false ∷ []) ∷ whole ∷ []) ≡ (4 ∷ 1 ∷ []) ∷ (7 ∷ []) ∷ []
+unfolding begun one two computed
+others-sized = refl
 
 other-right : (other .said ∷ otherRead .said ∷ [] ≡ fed 3 (f 6 5 6) ∷ counted 1 (f 6 5 6) ∷ [])
     × (otherRead .out ≡ 1 ∷ 0 ∷ 1 ∷ 1 ∷ 0 ∷ 1 ∷ 1 ∷ 0 ∷ 1 ∷ [])
@@ -246,14 +273,14 @@ faces = replicate 4 0 ++ 1 ∷ replicate 5 0 ++ 1 ∷ 0 ∷ 1 ∷ 1 ∷ 1 ∷ 0 
 
 inBlocks : List ℕ → FeedResult
 inBlocks structure =
-    let o = doOpen cube structure (replicate 21 7) in
+    let o = doOpen cube structure (replicate 25 7) in
     let a = doFeed (o .session) (o .words) 1 (true ∷ false ∷ []) in
     let b = doFeed (a .session) (a .words) 2 (false ∷ true ∷ true ∷ true ∷ []) in
     doFeed (b .session) (b .words) 1 (false ∷ false ∷ [])
 
 atOnce : List ℕ → FeedResult
 atOnce structure =
-    let o = doOpen cube structure (replicate 21 7) in
+    let o = doOpen cube structure (replicate 25 7) in
     doFeed (o .session) (o .words) 4 (true ∷ false ∷ false ∷ true ∷ true ∷ true ∷ false ∷ false ∷ [])
 
 -- the answer, the words, and the numbers that a reading then gives
@@ -267,14 +294,14 @@ show d = (d .said, d .words, doRead u32 (d .session) (d .words) (replicate 8 5) 
 abbrev byOnes : Shown
 byOnes = (
   fed 4 (f 3 2 4),
-  0 ∷ 1 ∷ 2 ∷ 3 ∷ 3 ∷ 0 ∷ 1 ∷ 0 ∷ 7 ∷ 1 ∷ 2 ∷ 0 ∷ 7 ∷ 0 ∷ 2 ∷ 0 ∷ replicate 5 7,
+  0 ∷ 1 ∷ 2 ∷ 3 ∷ 3 ∷ row 0 1 0 7 4 ++ row 1 2 0 7 0 ++ row 0 2 0 7 0 ++ replicate 5 7,
   1 ∷ 0 ∷ 0 ∷ 1 ∷ 1 ∷ 1 ∷ 0 ∷ 0 ∷ [],
 )
 
 abbrev byFaces : Shown
 byFaces = (
   fed 4 (f 3 1 4),
-  0 ∷ 1 ∷ 2 ∷ 3 ∷ 3 ∷ 0 ∷ 1 ∷ 0 ∷ 7 ∷ 1 ∷ 2 ∷ 1 ∷ 7 ∷ 0 ∷ 2 ∷ 0 ∷ replicate 5 7,
+  0 ∷ 1 ∷ 2 ∷ 3 ∷ 3 ∷ row 0 1 0 7 3 ++ row 1 2 1 7 1 ++ row 0 2 0 7 0 ++ replicate 5 7,
   1 ∷ 0 ∷ 0 ∷ 2 ∷ 1 ∷ 1 ∷ 0 ∷ 0 ∷ [],
 )
 

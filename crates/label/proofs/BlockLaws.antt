@@ -1,6 +1,6 @@
 -- Feeds one after the other are one feed of all their lines.
 -- Assumes nothing.
-use mathlib.Core.Path.{_≡_, refl, sym, ap, ap₂, _∙_, subst}
+use mathlib.Core.Path.{_≡_, refl, sym, ap, ap₂, _∙_, subst, fun-ext}
 use mathlib.Core.Logic.{_⊎_, inl, inr}
 use mathlib.Core.Bool.{Bool, true, false, cond}
 use mathlib.Core.List.{List, [], _++_, append-assoc, List·Memᴰ, _∷_, List·Memᴰ·cases-cons, List·Memᴰ·eq-of-singleton}
@@ -8,27 +8,30 @@ use Prim.Native.Nat.{ℕ, _+_, _-_, _*_, _≤_, _<_, min, suc, max, _/_, zero}
 use native.Mathlib.Nat.{le-refl, add-assoc, add-mul, zero-mul, suc-mul, mul-comm, mul-le-mul-right, div-lt-iff-lt-mul}
 use native.Mathlib.Omega.{arith}
 use borrow.Author.Tests.{leb-true, leb-false}
-use lib.Dec.{leb}
+use lib.Dec.{leb, ltb}
 use lib.ListN.{length, length-append}
-use Rattle.groups.specs.Groups.{Edge, rep, joins, visit}
-use Rattle.groups.proofs.VisitLaws.{visit-append, rep-over, joins-over}
+use Rattle.groups.specs.Groups.{Edge, rep, groupSum, joins, visit}
+use Rattle.groups.proofs.VisitLaws.{visit-append, rep-over, joins-over, rep-still}
 use Rattle.frame.specs.Shape.{width, leading}
-use Rattle.frame.specs.Runs.{nonzeroCells, runsBefore, frameRun}
+use Rattle.frame.specs.Runs.{nonzeroCells, Run, runLength, runsBefore, frameRun}
 use Rattle.frame.specs.Touches.{frameTouches}
 use Rattle.frame.specs.Memory.{wordsNeeded}
 use Rattle.frame.specs.Plain.{Answer}
-use Rattle.frame.specs.Words.{endPlace, parentOf}
+use Rattle.frame.specs.Words.{endPlace, parentOf, sizeWord}
 use Rattle.frame.specs.Lists.{sum}
 use Rattle.frame.proofs.TouchLaws.{touches-split}
 use Rattle.frame.proofs.CellLaws.{cells-append}
-use Rattle.frame.proofs.GrowLaws.{touches-stay}
+use Rattle.frame.proofs.GrowLaws.{run-stays, touches-stay}
 use Rattle.frame.proofs.PlainLaws.{figures-same}
-use Rattle.forest.proofs.ForestLaws.{grouping-rep-all, grouping-joins}
+use Rattle.forest.specs.Forest.{rootOf, own, brought}
+use Rattle.forest.proofs.ForestLaws.{grouping-rep, grouping-rep-all, grouping-joins}
+use Rattle.forest.proofs.SizeLaws.{brought-new, brought-over}
 use Rattle.label.specs.declared.Session.{Session}
 use Rattle.label.specs.Record.{shapeOf, structureOf, linesOf, withFigures}
 use Rattle.label.specs.Sound.{Sound}
 use Rattle.label.specs.Held.{cellsOf, groupingOf}
-use Rattle.label.specs.Feeding.{runsAfter, feedTouches, feedEdges, figuresAfter, feedRecord, FeedWords, FeedPromise}
+use Rattle.label.specs.Feeding.{runsAfter, runAfter, feedBrings, feedTouches, feedEdges, sizeAfter, figuresAfter, feedRecord}
+use Rattle.label.specs.Feeding.{FeedWords, FeedPromise}
 use Rattle.label.specs.WholeFrame.{chop, blockLines, blocks, Fills, no-more, block}
 use Rattle.label.specs.Steps.{FeedAccepted}
 use Rattle.label.proofs.AcceptedLaws.{accepted-cause, accepted-session}
@@ -36,7 +39,8 @@ use Rattle.label.proofs.StoreLaws.{Stores}
 use Rattle.label.proofs.SoundCells.{sound-stores}
 use Rattle.label.proofs.FeedWordLaws.{Aside, Wrote, wrote-others}
 use Rattle.label.proofs.FeedLaws.{feed-shape, fits-all, runs-after, start-after, run-after, touches-after, room, room-lines, written}
-use Rattle.label.proofs.FeedLaws.{stores-after, edges-ends, joins-after, sound-after}
+use Rattle.label.proofs.FeedLaws.{stores-after, edges-ends, joins-after}
+use Rattle.label.proofs.FeedSizeLaws.{fed-sums, sound-after}
 use Rattle.label.proofs.FeedNoneLaws.{words-none, record-none}
 
 -- two feeds that are accepted: k lines of a sound record, and then j lines
@@ -218,11 +222,60 @@ module _ (s : Session) (ws : List ℕ) (S : Sound s ws) (k : ℕ) (more : List B
     ran =
         λ r h. H₂ .listed r (rw runs-both h) ∙ ap (λ (c : List Bool). frameRun shape structure c r) cells-are
         ∙ sym (run-after s ws cells H (k + j) (more ++ rest) few-both whole-both r h);
-    stands = λ x A no-parent.
+    stands = λ x A free.
         written s₁ ws₁ (cells ++ more) H₁ j rest few₁ whole-s₁ memory₁ ws₂ W₁ .stands x (aside-second x A)
-        (λ r h. no-parent r (omega (arith, h, runs-both)))
-        ∙ written s ws cells H k more few whole (S .shape .memory) ws₁ W .stands x (aside-first x A) (λ r h. no-parent r (of-both r h));
+        (λ r h. free r (omega (arith, h, runs-both)))
+        ∙ written s ws cells H k more few whole (S .shape .memory) ws₁ W .stands x (aside-first x A) (λ r h. free r (of-both r h));
   }
+
+  -- ---- sizes
+
+  -- the runs that both feeds bring are those that one does
+  run-both : (r : ℕ) → r < runsAfter s₁ rest → runAfter s₁ ws₁ rest r ≡ runAfter s ws (more ++ rest) r
+  unfolding feedRecord shapeOf structureOf
+  run-both r h =
+      run-after s₁ ws₁ (cells ++ more) H₁ j rest few₁ whole-s₁ r h ∙ ap (λ (c : List Bool). frameRun shape structure c r) cells-are
+      ∙ sym (run-after s ws cells H (k + j) (more ++ rest) few-both whole-both r (omega (arith, h, runs-both)))
+
+  run-first : (r : ℕ) → r < runsAfter s more → runAfter s ws (more ++ rest) r ≡ runAfter s ws more r
+  run-first r h =
+      run-after s ws cells H (k + j) (more ++ rest) few-both whole-both r (of-both r h)
+      ∙ ap (λ (c : List Bool). frameRun shape structure c r) (sym cells-are)
+      ∙ run-stays shape structure (cells ++ more) rest (s .fed + k) (fits-all s ws cells H k more few whole) r
+      (rw (runs-after s ws cells H k more few whole) at h)
+      ∙ sym (run-after s ws cells H k more few whole r h)
+
+  brings-first : (r : ℕ) → r < runsAfter s more → feedBrings s ws (more ++ rest) r ≡ feedBrings s ws more r
+  unfolding feedBrings brought
+  brings-first r h = ap (λ (u : Run). cond (ltb r (s .figures .runs)) (cond (own (parentOf L ws) r) (sizeWord L ws r) 0) (runLength u))
+      (run-first r h)
+
+  brings-second : (r : ℕ) → runsAfter s more ≤ r → r < runsAfter s₁ rest
+      → feedBrings s ws (more ++ rest) r ≡ runLength (runAfter s₁ ws₁ rest r)
+  unfolding feedBrings
+  brings-second r l h =
+      brought-new (s .figures .runs) (parentOf L ws) (sizeWord L ws) (λ q. runLength (runAfter s ws (more ++ rest) q)) r
+      (omega (arith, l, runs-rise)) ∙ ap runLength (sym (run-both r h))
+
+  -- a run and its root after the first feed have one root after the second
+  coarser : (r : ℕ) → r < runsAfter s more → rep (feedEdges s₁ ws₁ j rest) (rootOf (parentOf L ws₁) r) ≡ rep (feedEdges s₁ ws₁ j rest) r
+  unfolding feedEdges feedRecord shapeOf
+  coarser r h =
+      ap (rep (feedEdges s₁ ws₁ j rest)) (sym (grouping-rep (parentOf L ws₁) (runsAfter s more) (W .parents) r h))
+      ∙ rep-still (feedTouches s₁ ws₁ j rest) (groupingOf s₁ ws₁) r
+
+  size-both : (r : ℕ) → sizeAfter s₁ ws₁ j rest r ≡ sizeAfter s ws (k + j) (more ++ rest) r
+  unfolding sizeAfter
+  size-both r =
+      over ∙ ap (λ (n : ℕ). groupSum (rep (feedEdges s₁ ws₁ j rest)) (feedBrings s ws (more ++ rest)) n r) runs-both
+      ∙ ap (λ (f : ℕ → ℕ). groupSum f (feedBrings s ws (more ++ rest)) (runsAfter s (more ++ rest)) r) (fun-ext rep-both)
+    where
+      over : groupSum (rep (feedEdges s₁ ws₁ j rest)) (feedBrings s₁ ws₁ rest) (runsAfter s₁ rest) r
+          ≡ groupSum (rep (feedEdges s₁ ws₁ j rest)) (feedBrings s ws (more ++ rest)) (runsAfter s₁ rest) r
+      over = unfold feedBrings feedRecord shapeOf in
+          brought-over (runsAfter s more) (parentOf L ws₁) (sizeWord L ws₁) (λ q. runLength (runAfter s₁ ws₁ rest q)) (runsAfter s₁ rest)
+          runs-rise₁ (W .parents) (rep (feedEdges s₁ ws₁ j rest)) (feedBrings s ws more) (feedBrings s ws (more ++ rest)) coarser
+          (fed-sums s ws k more ws₁ W) brings-first brings-second r
 
   pub words-both : FeedWords s ws (k + j) (more ++ rest) ws₂
   unfolding feedRecord shapeOf
@@ -231,6 +284,7 @@ module _ (s : Session) (ws : List ℕ) (S : Sound s ws) (k : ℕ) (more : List B
     others = wrote-others s ws (k + j) (more ++ rest) below-both room-both lines-room ws₂ written-both;
     parents = λ r h. W₁ .parents r (omega (arith, h, runs-both));
     grouped = λ r h. W₁ .grouped r (omega (arith, h, runs-both)) ∙ rep-both r;
+    sized = λ r h e. W₁ .sized r (omega (arith, h, runs-both)) (rep-both r ∙ e) ∙ size-both r;
     no-lines = λ e. W₁ .no-lines (omega arith) ∙ W .no-lines (omega arith);
   }
 
@@ -253,7 +307,7 @@ module _ (s : Session) (ws : List ℕ) (S : Sound s ws) (k : ℕ) (more : List B
     (few : k ≤ linesOf s - s .fed) (O : OneFeed s ws k more s₁ ws₁) where
   pub between-sound : Sound s₁ ws₁
   between-sound = subst (λ (x : Session). Sound x ws₁) (sym (O .session))
-      (sound-after s ws (cellsOf s ws) (sound-stores s ws S) k more few (O .whole) (S .shape .memory) ws₁ (O .words) (S .words .parents) S)
+      (sound-after s ws (cellsOf s ws) (sound-stores s ws S) k more few (O .whole) S ws₁ (O .words))
 
   pub between-shape : shapeOf s₁ ≡ shapeOf s
   between-shape = ap shapeOf (O .session) ∙ feed-shape s ws k more

@@ -1,4 +1,5 @@
--- A plain function for each call: its promise's right-hand sides, with each group's smallest run as its runs' parent.
+-- A plain function for each call: its promise's right-hand sides, with each group's smallest run as its runs' parent, and the sum of what
+-- its group's runs bring as each run's size.
 -- Assumes nothing.
 use mathlib.Core.Bool.{Bool}
 use mathlib.Core.List.{List, map}
@@ -10,13 +11,13 @@ use Rattle.frame.specs.ChainRule.{labels}
 use Rattle.frame.specs.Kinds.{Number, Value, write}
 use Rattle.frame.specs.Causes.{openCause}
 use Rattle.frame.specs.Plain.{Answer, fed, counted, unless, kept, groupsOf, figures}
-use Rattle.frame.specs.Words.{parentPlace}
+use Rattle.frame.specs.Words.{parentPlace, sizePlace}
 use Rattle.frame.specs.Lists.{setAll}
 use Rattle.label.specs.declared.Session.{Session}
 use Rattle.label.specs.Record.{linesOf}
 use Rattle.label.specs.Held.{numbersHeld, sizesHeld}
 use Rattle.label.specs.Opening.{openRecord, openWords, blank}
-use Rattle.label.specs.Feeding.{runsAfter, feedEdges, feedRecord, withRuns, feedCauseOf}
+use Rattle.label.specs.Feeding.{runsAfter, feedEdges, sizeAfter, feedRecord, withRuns, feedCauseOf}
 use Rattle.label.specs.Reading.{withNames, countedOf, readCauseOf, sizesCauseOf}
 use Rattle.label.specs.WholeFrame.{allFed, earlyCauseOf, frameCauseOf}
 
@@ -53,10 +54,14 @@ doOpen shape structure ws =
 unfoldable pub withParents : Session → List ℕ → ℕ → List Bool → List ℕ
 withParents s ws k cells = setAll (parentPlace (linesOf s)) (rep (feedEdges s ws k cells)) (runsAfter s cells) (withRuns s ws k cells)
 
+-- and each run's size, which is 0 for a run that is no root
+unfoldable pub withSizes : Session → List ℕ → ℕ → List Bool → List ℕ
+withSizes s ws k cells = setAll (sizePlace (linesOf s)) (sizeAfter s ws k cells) (runsAfter s cells) (withParents s ws k cells)
+
 -- a feed of no lines changes nothing
 unfoldable pub feedWords : Session → List ℕ → ℕ → List Bool → List ℕ
 feedWords s ws zero cells = ws
-feedWords s ws (suc k) cells = withParents s ws (suc k) cells
+feedWords s ws (suc k) cells = withSizes s ws (suc k) cells
 
 unfoldable pub doFeed : Session → List ℕ → ℕ → List Bool → FeedResult
 doFeed s ws k cells =

@@ -1,6 +1,6 @@
 -- A feed's lines, extracted and united with their neighbours, leave the words and the joins that a feed promises.
 -- Assumes nothing.
-use mathlib.Core.Path.{_≡_, refl, sym, ap, ap₂, _∙_, subst}
+use mathlib.Core.Path.{_≡_, refl, sym, ap, ap₂, _∙_, subst, fun-ext}
 use mathlib.Core.Bool.{Bool, true, false, not, cond}
 use mathlib.Core.List.{List, _++_}
 use Prim.Native.Nat.{ℕ, suc, _+_, _-_, _*_, _^_, _≤_, _<_}
@@ -10,32 +10,35 @@ use borrow.Author.Tests.{leb-true, leb-false, ltb-true, ltb-false}
 use lib.Dec.{ltb, leb}
 use lib.ListN.{length, getD}
 use lib.Seq.{take-all, ext-getD}
-use Rattle.groups.specs.Groups.{Edge, rep, joins, visit, gather}
+use Rattle.groups.specs.Groups.{Edge, rep, sumOver, joins, visit, gather}
 use Rattle.groups.proofs.CountLaws.{count-most}
+use Rattle.groups.proofs.SumLaws.{sum-values}
 use Rattle.frame.specs.Shape.{size, width, leading}
 use Rattle.frame.specs.Structure.{leftOn}
-use Rattle.frame.specs.Runs.{runs, nonzeroCells, beginsRun, Run, none, frameRuns, allRuns, runsBefore, frameRun}
+use Rattle.frame.specs.Runs.{runs, nonzeroCells, beginsRun, Run, none, runLength, frameRuns, allRuns, runsBefore, frameRun}
 use Rattle.frame.specs.Touches.{touches}
 use Rattle.frame.specs.Memory.{stride, perLine, wordsNeeded}
 use Rattle.frame.specs.declared.Figures.{Figures}
 use Rattle.frame.specs.Sums.{plusFigures, FiguresFit}
 use Rattle.frame.specs.Plain.{Answer, fed, unless}
-use Rattle.frame.specs.Words.{startPlace, endPlace, parentPlace, lineStart, parentOf, storedRun, NoParent}
+use Rattle.frame.specs.Words.{startPlace, endPlace, parentPlace, sizePlace, lineStart, parentOf, sizeWord, storedRun, NoGroupWord}
 use Rattle.frame.proofs.ShapeLaws.{Fits, length-leading, size-lines}
 use Rattle.frame.proofs.EntryLaws.{length-entries, getD-entries}
 use Rattle.frame.proofs.FrameRunLaws.{start-le, run-first, runs-all}
 use Rattle.frame.proofs.CellLaws.{cells-most}
 use Rattle.frame.proofs.PlainLaws.{figures-same, unless-none}
 use Rattle.frame.proofs.TouchLaws.{touches-same, touches-bytes}
-use Rattle.forest.specs.Forest.{own, nonRoots, grouping}
+use Rattle.forest.specs.Forest.{rootOf, own, nonRoots, grouping, Sums, brought}
 use Rattle.forest.proofs.ForestLaws.{grouping-joins}
+use Rattle.forest.proofs.SizeLaws.{sums-same, sums-values}
 use Rattle.forest.proofs.ResetLaws.{grouping-same}
 use Rattle.sweep.specs.Sweeps.{InOrder}
 use Rattle.geo.specs.Geometry.{leadingOf, ThreeDims}
 use Rattle.geo.specs.declared.Geo.{Geo}
 use Rattle.geo.specs.Geometry.{GeoOf}
 use Rattle.runs.specs.declared.Counts.{Counts}
-use Rattle.block.specs.Blocks.{linesRuns, linesCells, BlockRoom, Block, BlockReady, touchesFrom, BlockUnited, RoomFor, Extracts}
+use Rattle.block.specs.Blocks.{linesRuns, linesCells, BlockRoom, Block, broughtIn, BlockReady, touchesFrom, BlockUnited}
+use Rattle.block.specs.Blocks.{RoomFor, Extracts}
 use Rattle.causes.specs.declared.Checked.{Checked}
 use Rattle.causes.specs.Cases.{checkNumber}
 use Rattle.causes.proofs.CaseLaws.{passed-none}
@@ -43,7 +46,7 @@ use Rattle.label.specs.declared.Session.{Session}
 use Rattle.label.specs.Record.{shapeOf, structureOf, linesOf, withFigures}
 use Rattle.label.specs.Sound.{Sound}
 use Rattle.label.specs.Held.{cellsOf}
-use Rattle.label.specs.Feeding.{runsAfter, startAfter, runAfter, feedTouches, feedEdges, feedRecord}
+use Rattle.label.specs.Feeding.{runsAfter, startAfter, runAfter, feedBrings, feedTouches, feedEdges, sizeAfter, feedRecord}
 use Rattle.label.specs.Feeding.{feedCauseOf, FeedWords, FeedPromise}
 use Rattle.label.specs.Steps.{RecordFound, FeedAccepted, FeedExtracted, SomeExtracted, FeedDone}
 use Rattle.label.proofs.AcceptedLaws.{accepted-fits, cause-accepted, done-promise}
@@ -54,6 +57,7 @@ use Rattle.label.proofs.StoredSound.{stores-ordered}
 use Rattle.label.proofs.SoundCells.{sound-stores}
 use Rattle.label.proofs.FeedWordLaws.{Aside, Wrote, wrote-others}
 use Rattle.label.proofs.FeedLaws.{fits-all, runs-after, few-after, room, room-lines, wrote-stores, touches-after, joins-after}
+use Rattle.label.proofs.FeedSizeLaws.{brings-total}
 use Rattle.label.proofs.FitLaws.{limits, total-few}
 
 module _ (s : Session) (ws : List ℕ) (k : ℕ) (more : List Bool) (G : FeedAccepted s ws k more) where
@@ -172,6 +176,13 @@ module _ (s : Session) (ws : List ℕ) (k : ℕ) (more : List Bool) (G : FeedAcc
       no-end = λ x a b e. omega arith;
     })
 
+    sizes-stand : (r : ℕ) → sizeWord L ws₁ r ≡ sizeWord L ws r
+    sizes-stand r = stands (sizePlace L r) (record {
+      no-line = λ i l e. omega (arith, below);
+      no-start = λ x a b e. omega arith;
+      no-end = λ x a b e. omega arith;
+    })
+
     line-after : (ℓ : ℕ) → ℓ ≤ s .fed + k → lineStart ws₁ ℓ ≡ startAfter s ws more ℓ
     unfolding startAfter
     line-after ℓ h = go (leb ℓ (s .fed)) refl
@@ -218,6 +229,32 @@ module _ (s : Session) (ws : List ℕ) (k : ℕ) (more : List Bool) (G : FeedAcc
     unfolding feedRecord
     last-start = stores₁ .starts (s .fed + k) (le-refl (s .fed + k)) ∙ sym (stores₁ .runs-are)
 
+    -- what each run brings to its group is what the promise says
+    brings-are : (r : ℕ) → r < runsAfter s more → broughtIn L ws₁ (s .fed) r ≡ feedBrings s ws more r
+    unfolding feedBrings brought
+    brings-are r h =
+        ap (λ (n : ℕ). brought n (parentOf L ws₁) (sizeWord L ws₁) (λ q. runLength (storedRun L ws₁ q)) r) fed-start
+        ∙ ap₂ (λ (f : ℕ → ℕ) (g : ℕ → ℕ). brought (s .figures .runs) f g (λ q. runLength (storedRun L ws₁ q)) r) (fun-ext parents-stand)
+        (fun-ext sizes-stand)
+        ∙ ap (λ (u : Run). cond (ltb r (s .figures .runs)) (cond (own (parentOf L ws) r) (sizeWord L ws r) 0) (runLength u)) (run-after r h)
+
+    -- no more than the frame's cells
+    brings-few : sumOver (λ r. true) (broughtIn L ws₁ (s .fed)) (lineStart ws₁ (s .fed + k)) < 4294967296
+    brings-few =
+        rw last-start (omega (
+          arith,
+          sum-values (λ r. true) (broughtIn L ws₁ (s .fed)) (feedBrings s ws more) (runsAfter s more) (λ r h e. brings-are r h),
+          brings-total s ws k more cells H (G .few) (G .whole),
+          S .words .sizes,
+          cells-most more,
+          G .whole,
+          total-few s ws S,
+          add-mul (s .fed) k w,
+          mul-le-mul-right w below,
+          size-lines (shapeOf s),
+          limits s ws S .2,
+        ))
+
     -- no lines: nothing is written
     none-written : k ≡ 0 → ws₁ ≡ ws
     none-written z =
@@ -249,6 +286,7 @@ module _ (s : Session) (ws : List ℕ) (k : ℕ) (more : List Bool) (G : FeedAcc
         room = rw (last-start, B .long) room-all;
         sorted = sorted;
         parents = λ r h. rw (parents-stand r) (S .words .parents r (rw (← fed-start) h));
+        small = brings-few;
       }
 
       -- the touches of the new lines are those of the promise
@@ -295,19 +333,28 @@ module _ (s : Session) (ws : List ℕ) (k : ℕ) (more : List Bool) (G : FeedAcc
         unfolding feedEdges
         edges-are = ap₂ visit touches-are held-before
 
-        others : (j : ℕ) → NoParent L (runsAfter s more) j → getD ws₂ j 0 ≡ getD ws₁ j 0
+        others : (j : ℕ) → NoGroupWord L (runsAfter s more) j → getD ws₂ j 0 ≡ getD ws₁ j 0
         others j free = U .others j (rw last-start free)
 
         wrote₂ : Wrote s ws k more ws₂
         wrote₂ = record {
-          lined = λ ℓ h. others ℓ (λ r l e. omega (arith, below)) ∙ line-after ℓ h;
+          lined = λ ℓ h. others ℓ (λ r l. (omega (arith, below), omega (arith, below))) ∙ line-after ℓ h;
           ran = λ r h.
               ap₂ (λ (x : ℕ) (y : ℕ). record { start = x; end = y })
-              (others (startPlace L r) (λ i l e. omega arith))
-              (others (endPlace L r) (λ i l e. omega arith))
+              (others (startPlace L r) (λ i l. (omega arith, omega arith)))
+              (others (endPlace L r) (λ i l. (omega arith, omega arith)))
               ∙ run-after r h;
           stands = λ j A free. others j free ∙ stands j A;
         }
+
+        sized-by : (r : ℕ) → r < runsAfter s more → rep (feedEdges s ws k more) r ≡ r → sizeWord L ws₂ r ≡ sizeAfter s ws k more r
+        unfolding sizeAfter
+        sized-by = sums-values (rep (feedEdges s ws k more)) (sizeWord L ws₂) (broughtIn L ws₁ (s .fed)) (feedBrings s ws more)
+            (runsAfter s more) brings-are
+            (sums-same (rootOf (parentOf L ws₂)) (rep (feedEdges s ws k more)) (sizeWord L ws₂) (sizeWord L ws₂) (broughtIn L ws₁ (s .fed))
+            (runsAfter s more)
+            (λ r h. sym (U .grouped r (rw last-start h) ∙ ap (λ (es : List Edge). rep es r) edges-are)) (λ r h e. refl)
+            (subst (λ (n : ℕ). Sums (rootOf (parentOf L ws₂)) (sizeWord L ws₂) (broughtIn L ws₁ (s .fed)) n) last-start (U .sized)))
 
         pub block-words : FeedWords s ws k more ws₂
         block-words = record {
@@ -318,6 +365,7 @@ module _ (s : Session) (ws : List ℕ) (k : ℕ) (more : List Bool) (G : FeedAcc
               (room-lines s ws cells H k more (G .few) (G .whole) (S .shape .memory)) ws₂ wrote₂;
           parents = λ r h. U .parents r (rw last-start h);
           grouped = λ r h. U .grouped r (rw last-start h) ∙ ap (λ (es : List Edge). rep es r) edges-are;
+          sized = sized-by;
           no-lines = λ z. U .no-lines z ∙ none-written z;
         }
 

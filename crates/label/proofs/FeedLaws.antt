@@ -1,4 +1,4 @@
--- A feed on a record of any origin: the runs that its words hold afterwards, its grouping, and that it is sound again.
+-- A feed on a record of any origin: the runs that its words hold afterwards, and its grouping.
 -- Assumes nothing.
 use mathlib.Core.Path.{_≡_, refl, sym, ap, ap₂, _∙_}
 use mathlib.Core.Bool.{Bool, true, false, cond}
@@ -18,22 +18,18 @@ use Rattle.frame.specs.Shape.{width, leading}
 use Rattle.frame.specs.Runs.{runs, Run, runsBefore, frameRun}
 use Rattle.frame.specs.Touches.{frameTouches}
 use Rattle.frame.specs.Memory.{stride, perLine, wordsNeeded}
-use Rattle.frame.specs.Words.{namePlace, lineStart, parentOf, storedRun}
+use Rattle.frame.specs.Words.{sizePlace, lineStart, parentOf, storedRun}
 use Rattle.frame.proofs.ShapeLaws.{Fits}
 use Rattle.frame.proofs.FrameRunLaws.{start-le, starts-few, runs-all}
 use Rattle.frame.proofs.TouchLaws.{touches-below, touches-same}
-use Rattle.frame.proofs.CellLaws.{cells-append}
 use Rattle.frame.proofs.GrowLaws.{starts-stay, run-stays, starts-new, run-new}
 use Rattle.forest.specs.Forest.{nonRoots}
 use Rattle.forest.proofs.ForestLaws.{roots-others, roots-groups, grouping-ends}
-use Rattle.geo.proofs.ShapeSoundLaws.{shape-stays}
 use Rattle.label.specs.declared.Session.{Session}
 use Rattle.label.specs.Record.{shapeOf, structureOf, linesOf}
-use Rattle.label.specs.Sound.{Sound}
 use Rattle.label.specs.Held.{groupingOf}
 use Rattle.label.specs.Feeding.{runsAfter, startAfter, runAfter, feedTouches, feedEdges, feedRecord, FeedWords}
-use Rattle.label.proofs.StoreLaws.{Stores, stores-total}
-use Rattle.label.proofs.StoredSound.{stores-sound}
+use Rattle.label.proofs.StoreLaws.{Stores}
 use Rattle.label.proofs.FeedWordLaws.{Wrote, wrote}
 
 pub feed-shape : (s : Session) (ws : List ℕ) (k : ℕ) (more : List Bool) → shapeOf (feedRecord s ws k more) ≡ shapeOf s
@@ -147,7 +143,7 @@ module _ (s : Session) (ws : List ℕ) (cells : List Bool) (H : Stores s ws cell
 
   module _ (memory : wordsNeeded shape structure ≤ length ws) where
     -- the memory has room for the runs
-    pub room : (r : ℕ) → r < runsAfter s more → namePlace L r < length ws
+    pub room : (r : ℕ) → r < runsAfter s more → sizePlace L r < length ws
     unfolding wordsNeeded
     room r h = omega (arith, memory, few-after, mul-assoc stride L (perLine shape structure))
 
@@ -185,10 +181,3 @@ module _ (s : Session) (ws : List ℕ) (cells : List Bool) (H : Stores s ws cell
             (le-refl (runsAfter s more)) in
             let b = roots-others (parentOf L ws′) (runsAfter s more) in
             omega (arith, groups-after)
-
-        pub sound-after : Sound s ws → Sound (feedRecord s ws k more) ws′
-        unfolding feedRecord shapeOf structureOf
-        sound-after S =
-            stores-sound (feedRecord s ws k more) ws′ (cells ++ more) stores-after
-            (shape-stays _ _ _ _ (S .shape) (sym (W .long)) (stores-after .fits .below)) (W .parents) joins-after
-            (omega (arith, S .words .total, stores-total s ws cells H, cells-append cells more))

@@ -1,28 +1,30 @@
 -- A feed of no lines: the record and the words stand.
 -- Assumes nothing.
-use mathlib.Core.Path.{_≡_, refl, sym, ap, ap₂, _∙_}
+use mathlib.Core.Path.{_≡_, refl, sym, ap, ap₂, _∙_, subst}
 use mathlib.Core.Bool.{Bool}
 use mathlib.Core.List.{List}
-use Prim.Native.Nat.{ℕ, zero, suc, _+_}
+use Prim.Native.Nat.{ℕ, zero, suc, _+_, _<_}
 use native.Mathlib.Nat.{add-zero, zero-mul}
 use native.Mathlib.Omega.{arith}
-use Rattle.groups.specs.Groups.{joins, gather, visit}
+use Rattle.groups.specs.Groups.{rep, joins, gather, visit}
 use Rattle.frame.specs.Shape.{width}
-use Rattle.frame.specs.Runs.{runs, nonzeroCells}
+use Rattle.frame.specs.Runs.{runs, nonzeroCells, runLength}
 use Rattle.frame.specs.Touches.{touches}
 use Rattle.frame.specs.Plain.{Answer}
-use Rattle.frame.specs.Words.{parentOf}
+use Rattle.frame.specs.Words.{parentOf, sizeWord}
 use Rattle.frame.specs.Lists.{setAll}
 use Rattle.frame.proofs.FrameRunLaws.{start-zero, runs-all}
 use Rattle.frame.proofs.CellLaws.{cells-most}
 use Rattle.frame.proofs.PlainLaws.{figures-same, kept-old}
+use Rattle.forest.specs.Forest.{rootOf, Sums}
 use Rattle.forest.proofs.ForestLaws.{grouping-rep, grouping-joins}
+use Rattle.forest.proofs.SizeLaws.{sums-same, brought-sums}
 use Rattle.label.specs.declared.Session.{Session}
 use Rattle.label.specs.Record.{shapeOf, structureOf, linesOf, withFigures}
 use Rattle.label.specs.Sound.{Sound}
 use Rattle.label.specs.Held.{groupingOf}
-use Rattle.label.specs.Feeding.{runsAfter, feedTouches, feedEdges, figuresAfter, feedRecord, withLines, withRuns, feedCauseOf}
-use Rattle.label.specs.Feeding.{FeedWords, FeedPromise}
+use Rattle.label.specs.Feeding.{runsAfter, runAfter, feedBrings, feedTouches, feedEdges, sizeAfter, figuresAfter, feedRecord}
+use Rattle.label.specs.Feeding.{withLines, withRuns, feedCauseOf, FeedWords, FeedPromise}
 use Rattle.label.specs.Steps.{FeedAccepted}
 use Rattle.label.proofs.AcceptedLaws.{cause-accepted, accepted-fits, accepted-session}
 
@@ -45,6 +47,19 @@ module _ (s : Session) (ws : List ℕ) (cells : List Bool) (G : FeedAccepted s w
   unfolding feedEdges feedTouches touches gather visit
   same-edges = refl
 
+  -- each root brings its word, and no other run anything
+  sized-none : (r : ℕ) → r < runsAfter s cells → rep (feedEdges s ws 0 cells) r ≡ r
+      → sizeWord (linesOf s) ws r ≡ sizeAfter s ws 0 cells r
+  unfolding sizeAfter feedBrings
+  sized-none r h e =
+      let low = S .words .parents in
+      let p = parentOf (linesOf s) ws in
+      let same : (q : ℕ) → q < s .figures .runs → rep (feedEdges s ws 0 cells) q ≡ rootOf p q = λ q l. rw same-edges (grouping-rep p
+      (s .figures .runs) low q l) in
+      subst (λ (n : ℕ). Sums (rep (feedEdges s ws 0 cells)) (sizeWord (linesOf s) ws) (feedBrings s ws cells) n) (sym same-runs)
+      (sums-same (rootOf p) _ _ _ _ (s .figures .runs) same (λ q l z. refl)
+      (brought-sums (s .figures .runs) p (sizeWord (linesOf s) ws) (λ q. runLength (runAfter s ws cells q)) low)) r h e
+
   pub words-none : FeedWords s ws 0 cells ws
   words-none = record {
     long = refl;
@@ -52,6 +67,7 @@ module _ (s : Session) (ws : List ℕ) (cells : List Bool) (G : FeedAccepted s w
     parents = λ r h. S .words .parents r (rw (← same-runs) h);
     grouped =
         λ r h. rw same-edges (sym (grouping-rep (parentOf (linesOf s) ws) (s .figures .runs) (S .words .parents) r (rw (← same-runs) h)));
+    sized = sized-none;
     no-lines = λ e. refl;
   }
 

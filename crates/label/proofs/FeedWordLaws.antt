@@ -11,7 +11,7 @@ use lib.Dec.{eqb, ltb, leb}
 use lib.ListN.{length, getD}
 use Rattle.frame.specs.ChainRule.{any}
 use Rattle.frame.specs.Runs.{runs, Run}
-use Rattle.frame.specs.Words.{linePlace, startPlace, endPlace, lineStart, storedRun, NoParent}
+use Rattle.frame.specs.Words.{linePlace, startPlace, endPlace, lineStart, storedRun, NoGroupWord}
 use Rattle.frame.proofs.ChainRuleLaws.{any-found, any-at}
 use Rattle.frame.proofs.SetLaws.{length-setAll, setAll-other, setAll-at}
 use Rattle.label.specs.declared.Session.{Session}
@@ -24,11 +24,11 @@ pub record Aside (s : Session) (k : ℕ) (cells : List Bool) (j : ℕ) : Type 0 
   pub no-start : (r : ℕ) → s .figures .runs ≤ r → r < runsAfter s cells → j ≢ startPlace (linesOf s) r
   pub no-end : (r : ℕ) → s .figures .runs ≤ r → r < runsAfter s cells → j ≢ endPlace (linesOf s) r
 
--- what a feed's promise says of the words, parents aside, place by place
+-- what a feed's promise says of the words, group words aside, place by place
 pub record Wrote (s : Session) (ws : List ℕ) (k : ℕ) (cells : List Bool) (ws′ : List ℕ) : Type 0 where
   pub lined : (ℓ : ℕ) → ℓ ≤ s .fed + k → lineStart ws′ ℓ ≡ startAfter s ws cells ℓ
   pub ran : (r : ℕ) → r < runsAfter s cells → storedRun (linesOf s) ws′ r ≡ runAfter s ws cells r
-  pub stands : (j : ℕ) → Aside s k cells j → NoParent (linesOf s) (runsAfter s cells) j → getD ws′ j 0 ≡ getD ws j 0
+  pub stands : (j : ℕ) → Aside s k cells j → NoGroupWord (linesOf s) (runsAfter s cells) j → getD ws′ j 0 ≡ getD ws j 0
 
 length-withLines : (s : Session) (ws : List ℕ) (k : ℕ) (cells : List Bool) → length (withLines s ws k cells) ≡ length ws
 unfolding withLines
@@ -153,17 +153,17 @@ module _ (s : Session) (ws : List ℕ) (k : ℕ) (cells : List Bool) (below : s 
 
   pub wrote : (ws′ : List ℕ) → FeedWords s ws k cells ws′ → Wrote s ws k cells ws′
   wrote ws′ W = record {
-    lined = λ ℓ h. W .others ℓ (λ r l q. omega arith) ∙ line-at ℓ h;
+    lined = λ ℓ h. W .others ℓ (λ r l. (omega arith, omega arith)) ∙ line-at ℓ h;
     ran = λ r h.
         ap₂ (λ (x : ℕ) (y : ℕ). record { start = x; end = y })
-        (W .others (startPlace L r) (λ i l q. omega arith) ∙ start-at r h)
-        (W .others (endPlace L r) (λ i l q. omega arith) ∙ end-at r h);
-    stands = λ j A no-parent. W .others j no-parent ∙ aside-at j A;
+        (W .others (startPlace L r) (λ i l. (omega arith, omega arith)) ∙ start-at r h)
+        (W .others (endPlace L r) (λ i l. (omega arith, omega arith)) ∙ end-at r h);
+    stands = λ j A free. W .others j free ∙ aside-at j A;
   }
 
-  pub wrote-others : (ws′ : List ℕ) → Wrote s ws k cells ws′ → (j : ℕ) → NoParent L (runsAfter s cells) j
+  pub wrote-others : (ws′ : List ℕ) → Wrote s ws k cells ws′ → (j : ℕ) → NoGroupWord L (runsAfter s cells) j
       → getD ws′ j 0 ≡ getD (withRuns s ws k cells) j 0
-  wrote-others ws′ W j no-parent = line (any (λ i. eqb j (s .fed + suc i)) k) refl
+  wrote-others ws′ W j free = line (any (λ i. eqb j (s .fed + suc i)) k) refl
     where
       At : ℕ → Type 0
       At x = getD ws′ x 0 ≡ getD (withRuns s ws k cells) x 0
@@ -186,7 +186,7 @@ module _ (s : Session) (ws : List ℕ) (k : ℕ) (cells : List Bool) (below : s 
             no-end =
                 λ r l h q. true≢false (sym (any-at (λ r. eqb j (endPlace L r)) (runsAfter s cells) r h (eq-eqb j (endPlace L r) q)) ∙ f);
           } in
-          W .stands j A no-parent ∙ sym (aside-at j A)
+          W .stands j A free ∙ sym (aside-at j A)
 
       line : (b : Bool) → any (λ i. eqb j (s .fed + suc i)) k ≡ b → At j
       line true e =

@@ -117,7 +117,10 @@ module _ (kind : Number) (shape structure ws : List ℕ) (cells : List Bool) (ou
     frame-lines = ap lines (opened-shape shape structure ws A)
 
     pub frame-room : (r : ℕ) → r < runsAfter s cells → namePlace (linesOf s) r < length vs
-    frame-room = room s vs (cellsOf s vs) (sound-stores s vs (I .is-sound)) (lines shape) cells few whole (I .is-sound .shape .memory)
+    frame-room r h = omega (
+      arith,
+      room s vs (cellsOf s vs) (sound-stores s vs (I .is-sound)) (lines shape) cells few whole (I .is-sound .shape .memory) r h,
+    )
 
     module _ (ws₁ : List ℕ) (W : FeedWords s vs (lines shape) cells ws₁) where
       -- the record afterwards

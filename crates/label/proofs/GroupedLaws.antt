@@ -1,22 +1,28 @@
--- The parents after a list of calls: they give the chain rule's grouping, and a group's root is its smallest run.
+-- The parents after a list of calls: they give the chain rule's grouping, and a group's root is its smallest run, whose fifth word is the
+-- group's count of cells.
 -- Assumes nothing.
-use mathlib.Core.Path.{_≡_, sym, _∙_, subst}
+use mathlib.Core.Path.{_≡_, sym, ap, _∙_, subst}
 use mathlib.Core.Logic.{_↔_}
 use mathlib.Core.Bool.{Bool, true}
 use mathlib.Core.List.{List}
-use Prim.Native.Nat.{ℕ, _≤_, _<_}
+use Prim.Native.Nat.{ℕ, suc, _≤_, _<_}
+use native.Mathlib.Nat.{lt-of-le-of-lt, lt-of-lt-of-le}
 use Rattle.groups.specs.Groups.{Chain, rep}
-use Rattle.frame.specs.ChainRule.{nonzero, Step}
+use Rattle.frame.specs.Shape.{size}
+use Rattle.frame.specs.ChainRule.{nonzero, Step, label, sizeOf}
 use Rattle.frame.specs.Runs.{runs, runOf, SmallestRun}
-use Rattle.frame.specs.Words.{parentOf}
+use Rattle.frame.specs.Words.{parentOf, sizeWord}
+use Rattle.frame.proofs.ShapeLaws.{fits-size}
+use Rattle.frame.proofs.ChainRuleLaws.{nonzero-below}
 use Rattle.frame.proofs.RunGroupLaws.{chain-visited, smallest-visited}
-use Rattle.forest.specs.Forest.{rootOf}
+use Rattle.forest.specs.Forest.{rootOf, roots, numberIn}
+use Rattle.forest.proofs.ForestLaws.{root-stays, root-le, root-root}
 use Rattle.label.specs.declared.Session.{Session}
 use Rattle.label.specs.Record.{shapeOf, structureOf, linesOf}
-use Rattle.label.specs.Held.{cellsOf}
-use Rattle.label.proofs.StoreLaws.{Stores, stores-below}
+use Rattle.label.specs.Held.{cellsOf, numberAt}
+use Rattle.label.proofs.StoreLaws.{Stores, stores-below, stores-holder}
 use Rattle.label.proofs.SoundCells.{sound-stores}
-use Rattle.label.proofs.Invariant.{visited, Inv, inv-runs}
+use Rattle.label.proofs.Invariant.{visited, Inv, inv-runs, inv-number, inv-count}
 
 module _ (s : Session) (ws : List ℕ) (I : Inv s ws) where
   abbrev shape : List ℕ
@@ -57,3 +63,27 @@ module _ (s : Session) (ws : List ℕ) (I : Inv s ws) where
   inv-smallest p a =
       subst (SmallestRun shape structure cells p) (sym (root-rep p a))
       (smallest-visited shape structure cells (s .fed) (H .fits) p a)
+
+  pub cell-below : (p : ℕ) → nonzero cells p ≡ true → p < size shape
+  cell-below p a = lt-of-lt-of-le (nonzero-below cells p a) (fits-size shape (s .fed) cells (H .fits))
+
+  same-number : (r t : ℕ) → rootOf parent t ≡ rootOf parent r → numberIn parent t ≡ numberIn parent r
+  unfolding numberIn
+  same-number r t e = ap (λ (x : ℕ). roots parent (suc x)) e
+
+  at : (p : ℕ) → nonzero cells p ≡ true → numberIn parent (runOf shape structure cells p) ≡ numberAt s ws p
+  unfolding numberAt
+  at p a = rw a (ap (numberIn parent) (sym (stores-holder s ws cells H p a)))
+
+  -- and its fifth word is the count of the cells with the cell's number
+  pub inv-size : (p : ℕ) → nonzero cells p ≡ true
+      → sizeWord (linesOf s) ws (root p) ≡ sizeOf shape structure cells (label shape structure cells p)
+  inv-size p a =
+      let low = I .is-sound .words .parents in
+      let r = runOf shape structure cells p in
+      let h : r < s .figures .runs = stores-below s ws cells H p a in
+      let self : parent (root p) ≡ root p = root-root parent (s .figures .runs) low r h in
+      let below : root p < s .figures .runs = lt-of-le-of-lt (root-le parent (s .figures .runs) low r h) h in
+      inv-count s ws I (root p) below self
+      ∙ ap (sizeOf shape structure cells) (same-number r (root p) (root-stays parent (root p) self) ∙ at p a
+      ∙ inv-number s ws I p (cell-below p a))

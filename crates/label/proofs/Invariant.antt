@@ -1,34 +1,46 @@
 -- What holds of a record and its words after every list of calls from an accepted opening, and what follows from it.
 -- Assumes nothing.
-use mathlib.Core.Path.{_≡_, refl, sym, ap, _∙_}
+use mathlib.Core.Path.{_≡_, refl, sym, ap, _∙_, subst}
 use mathlib.Core.Bool.{Bool, true, false, cond}
 use mathlib.Core.List.{List, [], map}
-use Prim.Native.Nat.{ℕ, _-_, _<_}
+use Prim.Native.Nat.{ℕ, suc, _+_, _-_, _<_}
 use native.Mathlib.Nat.{le-refl}
 use native.Mathlib.Omega.{arith}
+use borrow.Author.Tests.{eqb-true, eq-eqb}
 use lib.Dec.{eqb}
-use Rattle.groups.specs.Groups.{Edge, rep, groups, visit}
+use lib.ListN.{length, getD, length-map}
+use lib.Seq.{ext-getD}
+use Rattle.groups.specs.Groups.{Edge, rep, groupSum, groups, visit}
 use Rattle.groups.specs.Numbers.{number}
-use Rattle.groups.proofs.CountLaws.{count-same}
+use Rattle.groups.proofs.CountLaws.{count-same, count-on, place, place-right}
+use Rattle.groups.proofs.SumLaws.{sum-same}
 use Rattle.frame.specs.Shape.{size}
 use Rattle.frame.specs.ChainRule.{nonzero, groupCount, label, range, labels, sizeOf, sizesOf}
-use Rattle.frame.specs.Runs.{runs, runOf}
+use Rattle.frame.specs.Runs.{runs, runOf, runLength}
 use Rattle.frame.specs.Touches.{frameTouches}
 use Rattle.frame.specs.Kinds.{Number, write}
 use Rattle.frame.specs.Plain.{State, groupsOf, figures}
-use Rattle.frame.specs.Words.{parentOf}
+use Rattle.frame.specs.Words.{parentOf, sizeWord, storedRun}
 use Rattle.frame.proofs.RunGroupLaws.{groups-visited, number-visited}
-use Rattle.frame.proofs.ListLaws.{same-map, map-twice}
+use Rattle.frame.proofs.ChainRuleLaws.{length-range}
+use Rattle.frame.proofs.ListLaws.{same-map, map-twice, listed-from}
 use Rattle.frame.proofs.PlainLaws.{figures-same}
-use Rattle.forest.specs.Forest.{rootOf, numberIn}
-use Rattle.forest.proofs.ForestLaws.{roots-groups, number-groups}
+use Rattle.forest.specs.Forest.{rootOf, own, roots, numberIn, sizeList, Sums}
+use Rattle.forest.proofs.ForestLaws.{root-stays, number-root, roots-groups, number-groups}
+use Rattle.forest.proofs.SizeListLaws.{length-list, list-at}
 use Rattle.label.specs.declared.Session.{Session}
 use Rattle.label.specs.Record.{shapeOf, structureOf, linesOf}
 use Rattle.label.specs.Sound.{Sound}
-use Rattle.label.specs.Held.{cellsOf, holderOf, rootCount, numberAt, sizeAt, numbersHeld, sizesHeld}
+use Rattle.label.specs.Held.{cellsOf, holderOf, rootCount, numberAt, numbersHeld, sizesHeld}
 use Rattle.label.proofs.SoundLaws.{n-joins}
 use Rattle.label.proofs.StoreLaws.{Stores, stores-below, stores-holder}
 use Rattle.label.proofs.SoundCells.{sound-stores, runs-held, cells-held}
+use Rattle.label.proofs.SizeLaws.{cells-numbered}
+
+-- a root's number is one more than the roots before it
+root-number : (p : ℕ → ℕ) (r : ℕ) → p r ≡ r → numberIn p r ≡ suc (roots p r)
+unfolding numberIn roots own
+root-number p r e = ap (λ (x : ℕ). roots p (suc x)) (root-stays p r e) ∙ count-on (own p) r (eq-eqb (p r) r e)
 
 -- the plain session's state that a record and its words hold
 abbrev pub stateOf : Session → List ℕ → State
@@ -38,10 +50,16 @@ stateOf s ws = record { structure = structureOf s; fed = s .fed; cells = cellsOf
 abbrev pub visited : Session → List ℕ → List Edge
 visited s ws = visit (frameTouches (shapeOf s) (structureOf s) (cellsOf s ws) 0 (s .fed)) []
 
--- the record is sound, and the grouping that it holds is that of the touches
+-- run r's length
+abbrev pub lengthOf : Session → List ℕ → ℕ → ℕ
+lengthOf s ws r = runLength (storedRun (linesOf s) ws r)
+
+-- the record is sound, the grouping that it holds is that of the touches, and a root's fifth word is the sum of its group's run lengths,
+-- which is the group's count of cells (`inv-count`)
 pub record Inv (s : Session) (ws : List ℕ) : Type 0 where
   pub is-sound : Sound s ws
   pub grouped : (r : ℕ) → r < s .figures .runs → rootOf (parentOf (linesOf s) ws) r ≡ rep (visited s ws) r
+  pub sized : Sums (rootOf (parentOf (linesOf s) ws)) (sizeWord (linesOf s) ws) (lengthOf s ws) (s .figures .runs)
 
 module _ (s : Session) (ws : List ℕ) (I : Inv s ws) where
   abbrev shape : List ℕ
@@ -109,11 +127,47 @@ module _ (s : Session) (ws : List ℕ) (I : Inv s ws) where
       same-map _ _ 0 (size shape) (λ p h. ap (write kind) (inv-number p (omega arith)))
       ∙ sym (map-twice (write kind) (label shape structure cells) (range 0 (size shape)))
 
-  -- what a size call writes
-  inv-size : (g : ℕ) → sizeAt s ws g ≡ sizeOf shape structure cells g
-  unfolding sizeAt sizeOf
-  inv-size g = count-same _ _ (size shape) (λ p h. ap (λ (x : ℕ). eqb x g) (inv-number p h))
+  -- ---- sizes
 
+  -- a root's fifth word is the count of the cells with its number
+  pub inv-count : (r : ℕ) → r < s .figures .runs → parent r ≡ r
+      → sizeWord (linesOf s) ws r ≡ sizeOf shape structure cells (numberIn parent r)
+  unfolding groupSum sizeOf
+  inv-count r h e =
+      I .sized r h (root-stays parent r e)
+      ∙ sum-same _ _ (lengthOf s ws) (s .figures .runs)
+      (λ q l. sym (number-root parent (s .figures .runs) (I .is-sound .words .parents) r q h l e))
+      ∙ sym (cells-numbered s ws (I .is-sound) (numberIn parent r) some)
+      ∙ count-same _ _ (size shape) (λ q l. ap (λ (x : ℕ). eqb x (numberIn parent r)) (inv-number q l))
+    where
+      some : 0 < numberIn parent r
+      some = omega (arith, root-number parent r e)
+
+  -- what a size call writes: the roots' words, in the order of their numbers
   pub inv-sizes : sizesHeld s ws ≡ sizesOf shape structure cells
-  unfolding sizesOf groupsOf
-  inv-sizes = ap (λ (n : ℕ). map (sizeAt s ws) (range 1 n)) inv-n ∙ same-map _ _ 1 (groupCount shape structure cells) (λ p h. inv-size p)
+  unfolding sizesHeld sizesOf
+  inv-sizes =
+      ext-getD 0 (sizeList parent (sizeWord (linesOf s) ws) (s .figures .runs))
+      (map (sizeOf shape structure cells) (range 1 (groupCount shape structure cells)))
+      (held ∙ n-is ∙ sym (length-map (range 1 (groupCount shape structure cells)) (sizeOf shape structure cells)
+      ∙ length-range 1 (groupCount shape structure cells))) (λ g l. at g (rw held at l))
+    where
+      n-is : roots parent (s .figures .runs) ≡ groupCount shape structure cells
+      n-is = unfold rootCount groupsOf in inv-n
+
+      held : length (sizeList parent (sizeWord (linesOf s) ws) (s .figures .runs)) ≡ roots parent (s .figures .runs)
+      held = length-list parent (sizeWord (linesOf s) ws) (s .figures .runs)
+
+      at : (g : ℕ) → g < roots parent (s .figures .runs)
+          → getD (sizeList parent (sizeWord (linesOf s) ws) (s .figures .runs)) g 0
+          ≡ getD (map (sizeOf shape structure cells) (range 1 (groupCount shape structure cells))) g 0
+      at g l =
+          let P = place-right (own parent) (s .figures .runs) g (unfold roots in l) in
+          let r = place (own parent) (s .figures .runs) g in
+          let e : parent r ≡ r = unfold own in eqb-true (parent r) r (P .passes) in
+          let is-g : roots parent r ≡ g = unfold roots in P .rank in
+          let number : numberIn parent r ≡ 1 + g = omega (arith, root-number parent r e, is-g) in
+          subst (λ (x : ℕ). getD (sizeList parent (sizeWord (linesOf s) ws) (s .figures .runs)) x 0 ≡ sizeWord (linesOf s) ws r) is-g
+          (list-at parent (sizeWord (linesOf s) ws) (s .figures .runs) r (P .under) (P .passes))
+          ∙ inv-count r (P .under) e ∙ ap (sizeOf shape structure cells) number
+          ∙ sym (listed-from (sizeOf shape structure cells) 1 (groupCount shape structure cells) g 0 (rw n-is at l))

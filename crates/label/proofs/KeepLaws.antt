@@ -4,35 +4,40 @@ use mathlib.Core.Path.{_≡_, refl, sym, ap, ap₂, _∙_, subst}
 use mathlib.Core.Bool.{Bool, true}
 use mathlib.Core.List.{List, [], _++_}
 use Prim.Native.Nat.{ℕ, zero, suc, _+_, _<_}
+use native.Mathlib.Nat.{lt-of-le-of-lt}
 use native.Mathlib.Omega.{arith}
 use lib.ListN.{length}
 use Rattle.groups.specs.Groups.{Edge, rep, visit}
 use Rattle.groups.proofs.RepLaws.{Ends}
-use Rattle.groups.proofs.VisitLaws.{ends-visit}
+use Rattle.groups.proofs.VisitLaws.{ends-visit, rep-still}
 use Rattle.frame.specs.Touches.{frameTouches}
 use Rattle.frame.specs.Kinds.{Cells, flags, Number, Value}
 use Rattle.frame.specs.Plain.{Call, feed, read, sizes, Answer, fed, counted, nothing, numbers, counts, Answered, written, unless, kept}
 use Rattle.frame.specs.Plain.{feeds, groupsOf, figures, cause, answer, answered, next}
-use Rattle.frame.specs.Words.{parentOf}
+use Rattle.frame.specs.Runs.{Run, runLength}
+use Rattle.frame.specs.Words.{parentOf, sizeWord, storedRun}
 use Rattle.frame.proofs.RunGroupLaws.{touches-runs}
 use Rattle.frame.proofs.GrowLaws.{rep-grow}
 use Rattle.frame.proofs.PlainLaws.{unless-same, kept-old, kept-same, next-feeds, next-stays}
-use Rattle.forest.specs.Forest.{rootOf}
-use Rattle.forest.proofs.ForestLaws.{grouping-rep-all}
+use Rattle.forest.specs.Forest.{rootOf, Sums}
+use Rattle.forest.proofs.ForestLaws.{root-le, grouping-rep, grouping-rep-all}
+use Rattle.forest.proofs.SizeLaws.{sums-same, brought-over}
 use Rattle.label.specs.declared.Session.{Session}
 use Rattle.label.specs.Record.{shapeOf, structureOf, linesOf}
 use Rattle.label.specs.Sound.{Sound, sound}
 use Rattle.label.specs.Held.{cellsOf, groupingOf}
-use Rattle.label.specs.Feeding.{feedEdges, feedRecord, feedCauseOf, FeedWords, FeedPromise}
+use Rattle.label.specs.Feeding.{runsAfter, runAfter, feedBrings, feedTouches, feedEdges, feedRecord, feedCauseOf}
+use Rattle.label.specs.Feeding.{FeedWords, FeedPromise}
 use Rattle.label.specs.Reading.{withNames, countedOf, readCauseOf, ReadPromise, sizesCauseOf, SizesPromise}
 use Rattle.label.specs.Steps.{FeedAccepted}
 use Rattle.label.proofs.SoundLaws.{right-sound}
 use Rattle.label.proofs.AcceptedLaws.{cause-accepted, accepted-session}
 use Rattle.label.proofs.StoreLaws.{Stores, stores-cells}
 use Rattle.label.proofs.SoundCells.{sound-stores}
-use Rattle.label.proofs.FeedLaws.{feed-shape, touches-after, stores-after, sound-after}
-use Rattle.label.proofs.NameLaws.{parents-stand, cells-named, sound-named}
-use Rattle.label.proofs.Invariant.{stateOf, visited, Inv, inv-runs, inv-n, inv-figures, inv-numbers, inv-sizes}
+use Rattle.label.proofs.FeedLaws.{feed-shape, touches-after, stores-after}
+use Rattle.label.proofs.FeedSizeLaws.{run-old, fed-sums, ran-after, sound-after}
+use Rattle.label.proofs.NameLaws.{parents-stand, sizes-stand, runs-stand, cells-named, sound-named}
+use Rattle.label.proofs.Invariant.{stateOf, visited, lengthOf, Inv, inv-runs, inv-n, inv-figures, inv-numbers, inv-sizes}
 
 -- ---- a feed that is accepted
 
@@ -50,8 +55,7 @@ module _ (s : Session) (ws : List ℕ) (I : Inv s ws) (k : ℕ) (more : List Boo
       (stores-after s ws (cellsOf s ws) H k more (G .few) (G .whole) (I .is-sound .shape .memory) ws′ W)
 
   pub fed-sound : Sound (feedRecord s ws k more) ws′
-  fed-sound = sound-after s ws (cellsOf s ws) H k more (G .few) (G .whole) (I .is-sound .shape .memory) ws′ W (I .is-sound .words .parents)
-      (I .is-sound)
+  fed-sound = sound-after s ws (cellsOf s ws) H k more (G .few) (G .whole) (I .is-sound) ws′ W
 
   -- the grouping held before is that of the old lines' touches
   before : (a : ℕ) → rep (groupingOf s ws) a ≡ rep (visited s ws) a
@@ -72,10 +76,38 @@ module _ (s : Session) (ws : List ℕ) (I : Inv s ws) (k : ℕ) (more : List Boo
       ap (λ (es : List Edge). rep (visit es (groupingOf s ws)) r) (touches-after s ws (cellsOf s ws) H k more (G .few) (G .whole))
       ∙ rep-grow (shapeOf s) (structureOf s) (cellsOf s ws) more (s .fed) (H .fits) k (groupingOf s ws) before r
 
+  -- what the runs bring is, over the new groups, what they have themselves
+  sizes-after : Sums (rootOf (parentOf (linesOf s) ws′)) (sizeWord (linesOf s) ws′) (λ r. runLength (storedRun (linesOf s) ws′ r))
+      (runsAfter s more)
+  unfolding feedBrings
+  sizes-after r h e = fed-sums s ws k more ws′ W r h e ∙ brought-over (s .figures .runs) (parentOf (linesOf s) ws) (sizeWord (linesOf s) ws)
+      (λ q. runLength (runAfter s ws more q)) (runsAfter s more) (unfold runsAfter in omega arith) (I .is-sound .words .parents)
+      (rootOf (parentOf (linesOf s) ws′)) (lengthOf s ws) (λ q. runLength (storedRun (linesOf s) ws′ q)) coarser (I .sized)
+      (λ q l. ap runLength (ran q (rise q l) ∙ run-old s ws k more q l)) (λ q l m. ap runLength (ran q m)) r
+    where
+      ran : (q : ℕ) → q < runsAfter s more → storedRun (linesOf s) ws′ q ≡ runAfter s ws more q
+      ran = ran-after s ws (cellsOf s ws) H k more (G .few) (G .whole) (I .is-sound) ws′ W
+
+      rise : (q : ℕ) → q < s .figures .runs → q < runsAfter s more
+      rise q l = unfold runsAfter in omega arith
+
+      -- a run and its root before have one root now
+      coarser : (q : ℕ) → q < s .figures .runs
+          → rootOf (parentOf (linesOf s) ws′) (rootOf (parentOf (linesOf s) ws) q) ≡ rootOf (parentOf (linesOf s) ws′) q
+      coarser q l =
+          let low = I .is-sound .words .parents in
+          let m : rootOf (parentOf (linesOf s) ws) q < runsAfter s more =
+          rise _ (lt-of-le-of-lt (root-le _ (s .figures .runs) low q l) l) in
+          let still : rep (feedEdges s ws k more) (rep (groupingOf s ws) q) ≡ rep (feedEdges s ws k more) q =
+          unfold feedEdges in rep-still (feedTouches s ws k more) (groupingOf s ws) q in
+          W .grouped _ m ∙ ap (rep (feedEdges s ws k more)) (sym (grouping-rep _ (s .figures .runs) low q l)) ∙ still
+          ∙ sym (W .grouped q (rise q l))
+
   pub fed-inv : Inv (feedRecord s ws k more) ws′
   unfolding feedRecord shapeOf structureOf
   fed-inv = record {
     is-sound = fed-sound;
+    sized = sizes-after;
     grouped =
         λ r h. W .grouped r h ∙ edges-after r
         ∙ ap (λ (cells : List Bool). rep (visit (frameTouches (shapeOf s) (structureOf s) cells 0 (s .fed + k)) []) r) (sym fed-cells);
@@ -154,6 +186,10 @@ module _ (s : Session) (ws : List ℕ) (I : Inv s ws) where
   named-inv : Inv s (withNames s ws)
   named-inv = record {
     is-sound = sound-named s ws (cellsOf s ws) H (I .is-sound);
+    sized = subst (λ (f : ℕ → Run). Sums (rootOf (parentOf (linesOf s) (withNames s ws))) (sizeWord (linesOf s) (withNames s ws))
+        (λ r. runLength (f r)) (s .figures .runs)) (sym (runs-stand s ws))
+        (sums-same _ _ _ _ (lengthOf s ws) (s .figures .runs) (λ r h. ap (λ (p : ℕ → ℕ). rootOf p r) (parents-stand s ws))
+        (λ r h e. ap (λ (f : ℕ → ℕ). f r) (sizes-stand s ws)) (I .sized));
     grouped =
         λ r h. ap (λ (p : ℕ → ℕ). rootOf p r) (parents-stand s ws) ∙ I .grouped r h
         ∙ ap (λ (cells : List Bool). rep (visit (frameTouches (shapeOf s) (structureOf s) cells 0 (s .fed)) []) r)

@@ -9,8 +9,10 @@ pub mod ApartLaws
 pub mod StoredSound
 pub mod SoundCells
 pub mod AnyOrigin
+pub mod SizeLaws
 pub mod FeedWordLaws
 pub mod FeedLaws
+pub mod FeedSizeLaws
 pub mod NameLaws
 pub mod WrittenNumbers
 pub mod WrittenSizes

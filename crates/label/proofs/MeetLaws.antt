@@ -1,18 +1,19 @@
 -- The plain functions meet the promises, whatever they are given.
 -- Assumes nothing.
 use mathlib.Core.Path.{_≡_, refl, sym, _∙_, subst}
+use mathlib.Core.Logic.{_≢_}
 use mathlib.Core.Bool.{Bool}
 use mathlib.Core.List.{List, [], _∷_}
 use Prim.Native.Nat.{ℕ, zero, suc, _-_, _*_, _≤_, _<_}
 use native.Mathlib.Nat.{zero-mul, add-mul}
 use native.Mathlib.Omega.{arith}
-use lib.ListN.{length, take, drop, take-append-drop, length-take, length-drop}
+use lib.ListN.{length, getD, take, drop, take-append-drop, length-take, length-drop}
 use Rattle.groups.specs.Groups.{Edge, rep}
 use Rattle.groups.proofs.RepLaws.{rep-le}
 use Rattle.frame.specs.Shape.{lines}
 use Rattle.frame.specs.Kinds.{Number, Value}
 use Rattle.frame.specs.Plain.{kept}
-use Rattle.frame.specs.Words.{parentPlace, parentOf}
+use Rattle.frame.specs.Words.{parentPlace, sizePlace, parentOf, sizeWord}
 use Rattle.frame.specs.Lists.{sum}
 use Rattle.frame.proofs.PlainLaws.{kept-new, kept-old}
 use Rattle.frame.proofs.SetLaws.{length-setAll, setAll-other, setAll-at}
@@ -21,7 +22,7 @@ use Rattle.label.specs.declared.Session.{Session}
 use Rattle.label.specs.Record.{linesOf}
 use Rattle.label.specs.Held.{cellsOf}
 use Rattle.label.specs.Opening.{openRecord, openWords, OpenPromise}
-use Rattle.label.specs.Feeding.{runsAfter, feedEdges, withRuns, feedCauseOf, FeedWords, FeedPromise}
+use Rattle.label.specs.Feeding.{runsAfter, feedEdges, sizeAfter, withRuns, feedCauseOf, FeedWords, FeedPromise}
 use Rattle.label.specs.Reading.{withNames, ReadPromise, SizesPromise}
 use Rattle.label.specs.WholeFrame.{Fills, no-more, block, earlyCauseOf, frameCauseOf, FramePromise}
 use Rattle.label.specs.Steps.{FeedAccepted}
@@ -30,7 +31,8 @@ use Rattle.label.proofs.SoundCells.{sound-stores}
 use Rattle.label.proofs.FeedWordLaws.{length-withRuns}
 use Rattle.label.proofs.FeedLaws.{room}
 use Rattle.label.proofs.FeedNoneLaws.{words-none}
-use Rattle.label.proofs.CallFunctions.{FeedResult, doOpen, withParents, feedWords, doFeed, doRead, doSizes, frameFeed, doFrame}
+use Rattle.label.proofs.CallFunctions.{FeedResult, doOpen, withParents, withSizes, feedWords, doFeed, doRead, doSizes, frameFeed}
+use Rattle.label.proofs.CallFunctions.{doFrame}
 
 -- ---- opening, reading, sizes: the functions are the promises' equations
 
@@ -66,25 +68,48 @@ module _ (s : Session) (ws : List ℕ) (k : ℕ) (cells : List Bool) (no-cause :
   G : FeedAccepted s ws k cells
   G = cause-accepted s ws k cells no-cause
 
-  parent-fits : (r : ℕ) → r < after → parentPlace L r < length ws
-  parent-fits r l = omega (
-    arith,
-    room s ws (cellsOf s ws) (sound-stores s ws (G .is-sound)) k cells (G .few) (G .whole) (G .is-sound .shape .memory) r l,
-  )
+  size-fits : (r : ℕ) → r < after → sizePlace L r < length ws
+  size-fits r l = room s ws (cellsOf s ws) (sound-stores s ws (G .is-sound)) k cells (G .few) (G .whole) (G .is-sound .shape .memory) r l
+
+  length-parents : length (withParents s ws k cells) ≡ length ws
+  unfolding withParents
+  length-parents = length-setAll _ _ after (withRuns s ws k cells) ∙ length-withRuns s ws k cells
+
+  length-sizes : length (withSizes s ws k cells) ≡ length (withParents s ws k cells)
+  unfolding withSizes
+  length-sizes = length-setAll _ _ after (withParents s ws k cells)
+
+  parents-other : (j : ℕ) → ((r : ℕ) → r < after → j ≢ parentPlace L r)
+      → getD (withParents s ws k cells) j 0 ≡ getD (withRuns s ws k cells) j 0
+  unfolding withParents
+  parents-other j h = setAll-other (parentPlace L) (rep es) after (withRuns s ws k cells) j h
+
+  -- setting sizes leaves the other words
+  sizes-other : (j : ℕ) → ((r : ℕ) → r < after → j ≢ sizePlace L r)
+      → getD (withSizes s ws k cells) j 0 ≡ getD (withParents s ws k cells) j 0
+  unfolding withSizes
+  sizes-other j h = setAll-other (sizePlace L) (sizeAfter s ws k cells) after (withParents s ws k cells) j h
 
   -- each parent is its group's smallest run
-  parent-is : (r : ℕ) → r < after → parentOf L (withParents s ws k cells) r ≡ rep es r
+  parent-is : (r : ℕ) → r < after → parentOf L (withSizes s ws k cells) r ≡ rep es r
   unfolding withParents
-  parent-is r l = setAll-at (parentPlace L) (rep es) after (withRuns s ws k cells) (λ i j a b e. omega arith) r l
-      (rw (length-withRuns s ws k cells) (parent-fits r l))
+  parent-is r l =
+      sizes-other (parentPlace L r) (λ q h. omega arith)
+      ∙ setAll-at (parentPlace L) (rep es) after (withRuns s ws k cells) (λ i j a b e. omega arith) r l
+      (rw (length-withRuns s ws k cells) (omega (arith, size-fits r l)))
 
-  with-parents : 0 < k → FeedWords s ws k cells (withParents s ws k cells)
-  unfolding withParents
-  with-parents some = record {
-    long = length-setAll _ _ after (withRuns s ws k cells) ∙ length-withRuns s ws k cells;
-    others = setAll-other (parentPlace L) (rep es) after (withRuns s ws k cells);
+  size-is : (r : ℕ) → r < after → sizeWord L (withSizes s ws k cells) r ≡ sizeAfter s ws k cells r
+  unfolding withSizes
+  size-is r l = setAll-at (sizePlace L) (sizeAfter s ws k cells) after (withParents s ws k cells) (λ i j a b e. omega arith) r l
+      (rw length-parents (size-fits r l))
+
+  with-sizes : 0 < k → FeedWords s ws k cells (withSizes s ws k cells)
+  with-sizes some = record {
+    long = length-sizes ∙ length-parents;
+    others = λ j free. sizes-other j (λ r l. free r l .1) ∙ parents-other j (λ r l. free r l .0);
     parents = λ r l. rw (parent-is r l) (rep-le es r);
-    grouped = canonical-root (parentOf L (withParents s ws k cells)) es after parent-is;
+    grouped = canonical-root (parentOf L (withSizes s ws k cells)) es after parent-is;
+    sized = λ r l e. size-is r l;
     no-lines = λ e. absurd (omega arith);
   }
 
@@ -92,7 +117,7 @@ words-met : (s : Session) (ws : List ℕ) (k : ℕ) (cells : List Bool) → feed
     → FeedWords s ws k cells (feedWords s ws k cells)
 unfolding feedWords
 words-met s ws zero cells no-cause = words-none s ws cells (cause-accepted s ws 0 cells no-cause)
-words-met s ws (suc k) cells no-cause = with-parents s ws (suc k) cells no-cause (omega arith)
+words-met s ws (suc k) cells no-cause = with-sizes s ws (suc k) cells no-cause (omega arith)
 
 pub feed-met : (s : Session) (ws : List ℕ) (k : ℕ) (cells : List Bool)
     → FeedPromise s ws k cells (doFeed s ws k cells .said) (doFeed s ws k cells .session) (doFeed s ws k cells .words)

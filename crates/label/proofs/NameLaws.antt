@@ -7,9 +7,9 @@ use mathlib.Core.List.{List}
 use Prim.Native.Nat.{ℕ, _≤_, _<_}
 use native.Mathlib.Omega.{arith}
 use lib.ListN.{length, getD}
-use Rattle.frame.specs.Words.{namePlace, parentOf, nameOf}
+use Rattle.frame.specs.Words.{namePlace, parentOf, nameOf, sizeWord, storedRun}
 use Rattle.frame.proofs.SetLaws.{length-setAll, setAll-other, setAll-at}
-use Rattle.forest.specs.Forest.{nonRoots, numberIn}
+use Rattle.forest.specs.Forest.{nonRoots, numberIn, rootSizes}
 use Rattle.geo.proofs.ShapeSoundLaws.{shape-stays}
 use Rattle.label.specs.declared.Session.{Session}
 use Rattle.label.specs.Record.{linesOf}
@@ -34,6 +34,13 @@ module _ (s : Session) (ws : List ℕ) where
 
   pub parents-stand : parentOf L (withNames s ws) ≡ parentOf L ws
   parents-stand = fun-ext (λ r. names-other _ (λ i h q. omega arith))
+
+  pub sizes-stand : sizeWord L (withNames s ws) ≡ sizeWord L ws
+  sizes-stand = fun-ext (λ r. names-other _ (λ i h q. omega arith))
+
+  pub runs-stand : storedRun L (withNames s ws) ≡ storedRun L ws
+  runs-stand = fun-ext (λ r. ap₂ (λ (x : ℕ) (y : ℕ). record { start = x; end = y }) (names-other _ (λ i h q. omega arith))
+      (names-other _ (λ i h q. omega arith)))
 
   -- and a run's name is its number
   pub names-at : ((r : ℕ) → r < s .figures .runs → namePlace L r < length ws) → (r : ℕ) → r < s .figures .runs
@@ -61,3 +68,4 @@ module _ (s : Session) (ws : List ℕ) where
         (subst (λ (p : ℕ → ℕ). (r : ℕ) → r < s .figures .runs → p r ≤ r) (sym parents-stand) (S .words .parents))
         (S .words .join-count ∙ ap (λ (p : ℕ → ℕ). nonRoots p (s .figures .runs)) (sym parents-stand))
         (S .words .total ∙ stores-total s ws cells H)
+        (ap₂ (λ (p : ℕ → ℕ) (q : ℕ → ℕ). rootSizes p q (s .figures .runs)) parents-stand sizes-stand ∙ S .words .sizes)

@@ -1,4 +1,5 @@
--- The promises leave parents free, and nothing else: two results of one call agree in all but parents, and in every root.
+-- The promises leave parents free, and the fifth words of runs that are no roots, and nothing else: two results of one call agree in all
+-- but these, and in every root and its fifth word.
 -- Assumes nothing.
 use mathlib.Core.Path.{_≡_, refl, sym, ap, _∙_, subst}
 use mathlib.Core.Logic.{_≢_}
@@ -14,7 +15,7 @@ use Rattle.frame.specs.ChainRule.{any}
 use Rattle.frame.specs.Runs.{runs}
 use Rattle.frame.specs.Kinds.{Number, Value}
 use Rattle.frame.specs.Plain.{Answer, kept}
-use Rattle.frame.specs.Words.{namePlace, parentOf, NoParent}
+use Rattle.frame.specs.Words.{namePlace, parentOf, sizeWord, NoGroupWord}
 use Rattle.frame.proofs.ChainRuleLaws.{any-found, any-at}
 use Rattle.frame.proofs.PlainLaws.{kept-new, kept-old}
 use Rattle.forest.specs.Forest.{rootOf}
@@ -26,7 +27,7 @@ use Rattle.label.specs.Feeding.{runsAfter, feedRecord, feedCauseOf, Feed
 use Rattle.label.specs.Reading.{withNames, ReadPromise, SizesPromise}
 use Rattle.label.specs.WholeFrame.{earlyCauseOf, frameCauseOf, FrameWords, FramePromise}
 use Rattle.label.proofs.FeedLaws.{feed-shape}
-use Rattle.label.proofs.NameLaws.{length-names, names-other, parents-stand, names-at}
+use Rattle.label.proofs.NameLaws.{length-names, names-other, parents-stand, sizes-stand, names-at}
 use Rattle.label.proofs.FrameLaws.{frame-feeds, frame-runs, frame-lines, frame-room}
 
 -- ---- opening, reading, sizes: nothing is free
@@ -47,20 +48,21 @@ pub sizes-only : (s : Session) (ws out : List ℕ) (a b : Answer) (s′ t : Sess
 sizes-only s ws out a b s′ t ws′ vs out′ out″ P Q =
     (P .said ∙ sym (Q .said), P .session ∙ sym (Q .session), P .words ∙ sym (Q .words), P .output ∙ sym (Q .output))
 
--- ---- feeding: the parents of the runs are free, their roots are not
+-- ---- feeding: the parents of the runs are free, their roots are not; nor are the roots' sizes
 
--- for L lines: alike but for the parents of the first n runs
+-- for L lines: alike but for the parents of the first n runs, and the sizes of those that are no roots
 pub record Alike (L n : ℕ) (ws vs : List ℕ) : Type 0 where
   pub long : length ws ≡ length vs
-  pub words : (j : ℕ) → NoParent L n j → getD ws j 0 ≡ getD vs j 0
+  pub words : (j : ℕ) → NoGroupWord L n j → getD ws j 0 ≡ getD vs j 0
   pub roots : (r : ℕ) → r < n → rootOf (parentOf L ws) r ≡ rootOf (parentOf L vs) r
+  pub sizes : (r : ℕ) → r < n → rootOf (parentOf L ws) r ≡ r → sizeWord L ws r ≡ sizeWord L vs r
 
 alike : (L n : ℕ) (ws vs : List ℕ) → ws ≡ vs → Alike L n ws vs
 alike L n ws vs e = record {
   long = ap length e;
   words = λ j h. ap (λ (l : List ℕ). getD l j 0) e;
-  roots = λ r h.
-      ap (λ (l : List ℕ). rootOf (parentOf L l) r) e;
+  roots = λ r h. ap (λ (l : List ℕ). rootOf (parentOf L l) r) e;
+  sizes = λ r h z. ap (λ (l : List ℕ). sizeWord L l r) e;
 }
 
 words-only : (s : Session) (ws : List ℕ) (k : ℕ) (cells : List Bool) (ws′ vs : List ℕ) → FeedWords s ws k cells ws′
@@ -69,8 +71,8 @@ words-only : (s : Session) (ws : List ℕ) (k : ℕ) (cells : List Bool) (ws′ 
 words-only s ws k cells ws′ vs P Q = record {
   long = P .long ∙ sym (Q .long);
   words = λ j h. P .others j h ∙ sym (Q .others j h);
-  roots =
-      λ r h. P .grouped r h ∙ sym (Q .grouped r h);
+  roots = λ r h. P .grouped r h ∙ sym (Q .grouped r h);
+  sizes = λ r h z. let own = sym (P .grouped r h) ∙ z in P .sized r h own ∙ sym (Q .sized r h own);
 }
 
 pub feed-only : (s : Session) (ws : List ℕ) (k : ℕ) (cells : List Bool) (a b : Answer) (s′ t : Session) (ws′ vs : List ℕ)
@@ -99,6 +101,10 @@ module _ (s : Session) (ws vs : List ℕ) (low-w : (r : ℕ) → r < s .figures 
     roots =
         λ r h. ap (λ (p : ℕ → ℕ). rootOf p r) (parents-stand s ws) ∙ A .roots r h
         ∙ ap (λ (p : ℕ → ℕ). rootOf p r) (sym (parents-stand s vs));
+    sizes =
+        λ r h z. ap (λ (f : ℕ → ℕ). f r) (sizes-stand s ws)
+        ∙ A .sizes r h (ap (λ (p : ℕ → ℕ). rootOf p r) (sym (parents-stand s ws)) ∙ z)
+        ∙ sym (ap (λ (f : ℕ → ℕ). f r) (sizes-stand s vs));
   }
     where
       Same : ℕ → Type 0
@@ -109,7 +115,7 @@ module _ (s : Session) (ws vs : List ℕ) (low-w : (r : ℕ) → r < s .figures 
           names-at s ws room r h ∙ numbers-same (parentOf L ws) (parentOf L vs) (s .figures .runs) low-w low-v (A .roots) r h
           ∙ sym (names-at s vs (λ i l. rw (← A .long) (room i l)) r h)
 
-      go : (j : ℕ) → NoParent L (s .figures .runs) j → (b : Bool) → any (λ r. eqb j (namePlace L r)) (s .figures .runs) ≡ b → Same j
+      go : (j : ℕ) → NoGroupWord L (s .figures .runs) j → (b : Bool) → any (λ r. eqb j (namePlace L r)) (s .figures .runs) ≡ b → Same j
       go j h true e =
           let f = any-found (λ r. eqb j (namePlace L r)) (s .figures .runs) e in
           subst Same (sym (eqb-true j (namePlace L (f .0)) (f .2))) (named (f .0) (f .1))
@@ -186,7 +192,7 @@ module _ (kind : Number) (shape structure ws : List ℕ) (cells : List Bool) (ou
           (subst (λ (n : ℕ). Alike (linesOf s₁) n ws′ vs′) (stored ∙ frame-runs kind shape structure ws cells out no-cause)
           (kept-alike late refl))
 
-  -- answer, output and words, parents aside
+  -- answer, output and words, what is free aside
   pub frame-only : (a ≡ b) × (out′ ≡ out″) × Alike (lines shape) (runs shape structure cells) ws′ vs′
   frame-only = (P .said ∙ sym (Q .said), P .output ∙ sym (Q .output), go early refl)
     where

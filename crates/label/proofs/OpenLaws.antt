@@ -8,7 +8,7 @@ use native.Mathlib.Nat.{zero-mul, not-suc-le-zero}
 use native.Mathlib.Omega.{arith}
 use lib.ListN.{length, length-set}
 use lib.Seq.{getD-set-same}
-use Rattle.groups.specs.Groups.{count}
+use Rattle.groups.specs.Groups.{count, sumOver}
 use Rattle.frame.specs.Shape.{width}
 use Rattle.frame.specs.Memory.{wordsNeeded}
 use Rattle.frame.specs.Causes.{openCause}
@@ -20,7 +20,7 @@ use Rattle.frame.proofs.CauseLaws.{rank-right, Allowed, open-accepted}
 use Rattle.frame.proofs.PlainLaws.{kept-new}
 use Rattle.frame.proofs.EntryLaws.{entries-padded}
 use Rattle.geo.specs.Geometry.{ShapeSound}
-use Rattle.forest.specs.Forest.{nonRoots}
+use Rattle.forest.specs.Forest.{nonRoots, rootSizes}
 use Rattle.label.specs.declared.Session.{Session}
 use Rattle.label.specs.Record.{shapeOf, structureOf}
 use Rattle.label.specs.Sound.{Sound}
@@ -74,10 +74,14 @@ module _ (shape structure ws : List ℕ) (A : Allowed shape structure (length ws
   opened-sound : Sound s ws′
   opened-sound =
       stores-sound s ws′ [] opened-stores (rw (opened-shape, opened-structure) opened-shaped)
-      (λ r h. absurd (not-suc-le-zero h)) (unfold nonRoots count in refl) (sym cells-none)
+      (λ r h. absurd (not-suc-le-zero h)) (unfold nonRoots count in refl) (sym cells-none) (unfold rootSizes sumOver in refl)
 
   pub opened-inv : Inv s ws′
-  opened-inv = record { is-sound = opened-sound; grouped = λ r h. absurd (not-suc-le-zero h) }
+  opened-inv = record {
+    is-sound = opened-sound;
+    grouped = λ r h. absurd (not-suc-le-zero h);
+    sized = λ r h. absurd (not-suc-le-zero h);
+  }
 
   pub opened-state : stateOf s ws′ ≡ opened structure
   opened-state =

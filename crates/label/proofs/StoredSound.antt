@@ -11,10 +11,10 @@ use Rattle.frame.specs.Shape.{width, lines}
 use Rattle.frame.specs.Structure.{leftOn}
 use Rattle.frame.specs.Runs.{nonzeroCells, Run, none, lineRuns, gapOf, lineOf, frameRuns, runsBefore, frameRun}
 use Rattle.frame.specs.Memory.{perLine}
-use Rattle.frame.specs.Words.{lineStart, runStart, runEnd, parentOf, storedRun}
+use Rattle.frame.specs.Words.{lineStart, runStart, runEnd, parentOf, sizeWord, storedRun}
 use Rattle.frame.proofs.LineLaws.{Within}
 use Rattle.frame.proofs.FrameRunLaws.{start-zero, start-suc, start-le, run-at, Located, located, runs-few, run-within, run-order}
-use Rattle.forest.specs.Forest.{nonRoots}
+use Rattle.forest.specs.Forest.{nonRoots, rootSizes}
 use Rattle.geo.specs.Geometry.{ShapeSound}
 use Rattle.sweep.specs.Sweeps.{InOrder}
 use Rattle.label.specs.declared.Session.{Session}
@@ -101,7 +101,8 @@ module _ (s : Session) (ws : List ℕ) (cells : List Bool) (H : Stores s ws cell
 
   module _ (shape : ShapeSound dims bytes (length ws) (s .fed)) (parents : (r : ℕ) → r < s .figures .runs → parentOf (linesOf s) ws r ≤ r)
       (join-count : s .figures .joins ≡ nonRoots (parentOf (linesOf s) ws) (s .figures .runs))
-      (total : s .figures .cells ≡ nonzeroCells cells) where
+      (total : s .figures .cells ≡ nonzeroCells cells)
+      (sizes : rootSizes (parentOf (linesOf s) ws) (sizeWord (linesOf s) ws) (s .figures .runs) ≡ s .figures .cells) where
     pub stores-sound : Sound s ws
     stores-sound = record {
       shape = shape;
@@ -117,5 +118,6 @@ module _ (s : Session) (ws : List ℕ) (cells : List Bool) (H : Stores s ws cell
         parents = parents;
         join-count = join-count;
         total = total ∙ sym (stores-total s ws cells H);
+        sizes = sizes;
       };
     }

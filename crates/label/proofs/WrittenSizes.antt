@@ -1,267 +1,38 @@
--- A sound record is ready to have the cells of each group counted run by run; and the counts are what a size call promises.
+-- A sound record is ready to have the sizes of its groups copied; and what is copied is what a size call promises.
 -- Assumes nothing.
-use mathlib.Core.Path.{_≡_, refl, sym, ap, _∙_, subst}
-use mathlib.Core.Logic.{_⊎_, inl, inr}
-use mathlib.Core.Bool.{Bool, true, false, cond, _&&_}
+use mathlib.Core.Path.{_≡_, sym, _∙_}
+use mathlib.Core.Bool.{Bool, false}
 use mathlib.Core.List.{List}
-use Prim.Native.Nat.{ℕ, zero, suc, _+_, _-_, _*_, _/_, _%_, _≤_, _<_}
-use native.Mathlib.Nat.{le-refl, le-trans, le-antisymm, zero-add, suc-mul, mul-le-mul-right, div-add-mod'}
-use native.Mathlib.Omega.{arith}
-use borrow.Author.Tests.{eqb-true, eqb-false, eq-eqb, ne-eqb, ltb-true, ltb-false, lt-ltb, le-ltb}
-use lib.Arith.{digits-lt, digits-div, digits-mod}
-use lib.Dec.{eqb, ltb}
-use lib.ListN.{length, getD, length-map}
-use lib.Seq.{ext-getD}
-use Rattle.groups.specs.Groups.{count}
-use Rattle.groups.proofs.BoolLaws.{and₃, bool-same}
-use Rattle.groups.proofs.CountLaws.{count-same, count-none, count-beyond, count-most}
-use Rattle.groups.proofs.IntervalLaws.{count-interval}
-use Rattle.frame.specs.Shape.{size, width}
-use Rattle.frame.specs.ChainRule.{nonzero, range}
+use Prim.Native.Nat.{ℕ, _-_, _≤_}
+use lib.Dec.{ltb}
+use lib.ListN.{length}
 use Rattle.frame.specs.Plain.{Answer, counted, unless}
-use Rattle.frame.specs.Words.{lineStart, runStart, runEnd, parentOf}
-use Rattle.frame.proofs.ShapeLaws.{size-lines}
-use Rattle.frame.proofs.ChainRuleLaws.{length-range}
-use Rattle.frame.proofs.ListLaws.{listed-from}
 use Rattle.frame.proofs.PlainLaws.{unless-none}
-use Rattle.frame.proofs.FrameRunLaws.{located, line-below}
-use Rattle.forest.specs.Forest.{numberIn}
 use Rattle.causes.specs.declared.Checked.{Checked}
 use Rattle.causes.specs.Cases.{checkNumber}
 use Rattle.causes.proofs.CaseLaws.{passed-none}
-use Rattle.write.specs.Writes.{runCells, SizesReady, SizesWritten}
+use Rattle.write.specs.Writes.{SizesReady, SizesWritten}
 use Rattle.label.specs.declared.Session.{Session}
-use Rattle.label.specs.Record.{shapeOf, structureOf, linesOf}
+use Rattle.label.specs.Record.{linesOf}
 use Rattle.label.specs.Sound.{Sound}
-use Rattle.label.specs.Held.{cellsOf, holderOf, rootCount, numberAt, sizeAt, sizesHeld}
+use Rattle.label.specs.Held.{rootCount, sizesHeld}
 use Rattle.label.specs.Reading.{withNames, sizesCauseOf, SizesPromise}
 use Rattle.label.specs.Steps.{RecordFound}
-use Rattle.label.proofs.SoundLaws.{starts-rise}
 use Rattle.label.proofs.RecordGeometry.{geo-lines}
 use Rattle.label.proofs.CheckLaws.{passed-cause, passed-geometry}
 use Rattle.label.proofs.AcceptedLaws.{cause-sizes, sizes-promise}
-use Rattle.label.proofs.HoldLaws.{holds-parts, parts-hold}
-use Rattle.label.proofs.StoreLaws.{Stores, own-holds, holder-is, stores-below, stores-holder}
-use Rattle.label.proofs.SoundCells.{sound-stores}
-use Rattle.label.proofs.FitLaws.{limits, joins-fit}
+use Rattle.label.proofs.FitLaws.{joins-fit}
 use Rattle.label.proofs.WrittenNumbers.{names-ready}
 
 module _ (s : Session) (ws : List ℕ) (S : Sound s ws) where
-  -- L, w, the cells held, and the number of a run
-  abbrev L : ℕ
-  L = linesOf s
-
-  abbrev w : ℕ
-  w = width (shapeOf s)
-
-  abbrev cells : List Bool
-  cells = cellsOf s ws
-
-  abbrev number : ℕ → ℕ
-  number = numberIn (parentOf (linesOf s) ws)
-
-  H : Stores s ws (cellsOf s ws)
-  H = sound-stores s ws S
-
-  -- ---- a run's cells
-
-  -- the cells that run r holds are those of an interval in C order
-  record RunInterval (r : ℕ) : Type 0 where
-    pub from : ℕ
-    pub to : ℕ
-    pub long : to - from ≡ runEnd L ws r - runStart L ws r
-    pub upto : from ≤ to
-    pub below : to ≤ size (shapeOf s)
-    pub inside : (p : ℕ) → from ≤ p → p < to → (nonzero cells p ≡ true) × (holderOf s ws p ≡ r)
-    pub only : (p : ℕ) → nonzero cells p ≡ true → holderOf s ws p ≡ r → (from ≤ p) × (p < to)
-
-  module _ (r : ℕ) (h : r < s .figures .runs) where
-    -- the line of r
-    record OfLine : Type 0 where
-      pub ℓ : ℕ
-      pub is-fed : ℓ < s .fed
-      pub low : lineStart ws ℓ ≤ r
-      pub high : r < lineStart ws (suc ℓ)
-
-    of-line : OfLine
-    of-line =
-        let P = located (shapeOf s) (structureOf s) cells (s .fed) r (rw (← H .runs-are) h) in
-        record {
-          ℓ = P .line-of;
-          is-fed = P .is-line;
-          low = rw (H .starts (P .line-of) (omega (arith, P .is-line))) (P .low);
-          high = rw (H .starts (suc (P .line-of)) (P .is-line)) (P .high);
-        }
-
-    -- a line that starts by r is not after one that ends past it
-    one-line : (a b : ℕ) → a ≤ s .fed → lineStart ws a ≤ r → r < lineStart ws (suc b) → a ≤ b
-    one-line a b h low high = go (ltb b a) refl
-      where
-        go : (t : Bool) → ltb b a ≡ t → a ≤ b
-        go true t = absurd (omega (arith, starts-rise s ws S (suc b) a (ltb-true b a t) h))
-        go false t = ltb-false b a t
-
-    run-interval : RunInterval r
-    run-interval = record {
-      from = ℓ * w + runStart L ws r;
-      to = ℓ * w + runEnd L ws r;
-      long = omega arith;
-      upto = omega (arith, S .words .nonempty r h);
-      below =
-          let most = mul-le-mul-right w (le-trans fed (S .shape .within)) in
-          rw (size-lines (shapeOf s)) (omega (arith, S .words .inside r h, suc-mul ℓ w, most));
-      inside = inside;
-      only = only;
-    }
-      where
-        ℓ : ℕ
-        ℓ = of-line .ℓ
-
-        fed : ℓ < s .fed
-        fed = of-line .is-fed
-
-        inside : (p : ℕ) → ℓ * w + runStart L ws r ≤ p → p < ℓ * w + runEnd L ws r → (nonzero cells p ≡ true) × (holderOf s ws p ≡ r)
-        inside p a b =
-            let x : ℕ = p - ℓ * w in
-            let l : x < w = omega (arith, S .words .inside r h) in
-            let q : ℓ * w + x ≡ p = omega arith in
-            let k = parts-hold s ws (ℓ * w + x) r (record {
-              low = rw (digits-div ℓ l) (of-line .low);
-              high = rw (digits-div ℓ l) (of-line .high);
-              covers = rw (digits-mod ℓ l) (omega arith, omega arith);
-            }) in
-            let c = holder-is s ws cells H (ℓ * w + x) r (digits-lt fed l) h k in
-            subst (λ (n : ℕ). (nonzero cells n ≡ true) × (holderOf s ws n ≡ r)) q
-            (c .0, stores-holder s ws cells H (ℓ * w + x) (c .0) ∙ c .1)
-
-        only : (p : ℕ) → nonzero cells p ≡ true → holderOf s ws p ≡ r → (ℓ * w + runStart L ws r ≤ p) × (p < ℓ * w + runEnd L ws r)
-        only p a e =
-            let k = holds-parts s ws p r (rw (← e, stores-holder s ws cells H p a) (own-holds s ws cells H p a)) in
-            let b : p / w < s .fed = line-below (shapeOf s) (structureOf s) cells (s .fed) (H .fits) p a in
-            let q : p / w ≡ ℓ = le-antisymm (one-line (p / w) ℓ (omega arith) (k .low) (of-line .high))
-            (one-line ℓ (p / w) (omega (arith, fed)) (of-line .low) (k .high)) in
-            let d : ℓ * w + p % w ≡ p = subst (λ (m : ℕ). m * w + p % w ≡ p) q (div-add-mod' p w) in
-            (omega (arith, k .covers .0), omega (arith, k .covers .1))
-
-  -- ---- the cells of a group, run by run
-
-  module _ (g : ℕ) where
-    -- cell p is held by one of the first n runs, whose number is g
-    abbrev heldBelow : ℕ → ℕ → Bool
-    heldBelow n p = nonzero (cellsOf s ws) p && (ltb (holderOf s ws p) n && eqb (numberIn (parentOf (linesOf s) ws) (holderOf s ws p)) g)
-
-    -- one run more makes no difference to a cell that it does not hold, nor where its number is another
-    same-below : (n p : ℕ) → (nonzero cells p ≡ true → holderOf s ws p ≡ n → number n ≡ g → ⊥) → heldBelow (suc n) p ≡ heldBelow n p
-    same-below n p other =
-        bool-same (heldBelow (suc n) p) (heldBelow n p) fewer
-        (λ e. let k = parts n e in join (suc n) (k .0) (omega (arith, k .1)) (k .2))
-      where
-        parts : (m : ℕ) → heldBelow m p ≡ true → (nonzero cells p ≡ true) × (holderOf s ws p < m) × (number (holderOf s ws p) ≡ g)
-        parts m e =
-            let k = and₃ (nonzero cells p) (ltb (holderOf s ws p) m) (eqb (number (holderOf s ws p)) g) e in
-            (k .0, ltb-true _ _ (k .1), eqb-true _ _ (k .2))
-
-        join : (m : ℕ) → nonzero cells p ≡ true → holderOf s ws p < m → number (holderOf s ws p) ≡ g → heldBelow m p ≡ true
-        join m a l e = rw (a, lt-ltb (holderOf s ws p) m l, eq-eqb (number (holderOf s ws p)) g e) refl
-
-        fewer : heldBelow (suc n) p ≡ true → heldBelow n p ≡ true
-        fewer e =
-            let k = parts (suc n) e in
-            let ne : holderOf s ws p ≡ n → ⊥ = λ q. other (k .0) q (ap number (sym q) ∙ k .2) in
-            join n (k .0) (omega (arith, k .1)) (k .2)
-
-    -- run n adds its cells where its number is g
-    count-run : (n : ℕ) → n < s .figures .runs
-        → count (heldBelow (suc n)) (size (shapeOf s))
-        ≡ cond (eqb (number n) g) (runEnd L ws n - runStart L ws n) 0 + count (heldBelow n) (size (shapeOf s))
-    count-run n h = go (eqb (number n) g) refl
-      where
-        K : RunInterval n
-        K = run-interval n h
-
-        off : (p : ℕ) → K .from ≤ p → p < K .to → heldBelow n p ≡ false
-        off p a b = let k = K .inside p a b in rw (k .0, k .1, le-ltb n n (le-refl n)) refl
-
-        on : number n ≡ g → (p : ℕ) → K .from ≤ p → p < K .to → heldBelow (suc n) p ≡ true
-        on e p a b = let k = K .inside p a b in rw (k .0, k .1, lt-ltb n (suc n) (le-refl (suc n)), eq-eqb (number n) g e) refl
-
-        outside : (p : ℕ) → (p < K .from) ⊎ (K .to ≤ p) → heldBelow (suc n) p ≡ heldBelow n p
-        outside p (inl l) = same-below n p (λ a e q. let k = K .only p a e in omega (arith, k .0))
-        outside p (inr l) = same-below n p (λ a e q. let k = K .only p a e in omega (arith, k .1))
-
-        go : (t : Bool) → eqb (number n) g ≡ t
-            → count (heldBelow (suc n)) (size (shapeOf s))
-            ≡ cond (eqb (number n) g) (runEnd L ws n - runStart L ws n) 0 + count (heldBelow n) (size (shapeOf s))
-        go true t =
-            let more = count-interval (heldBelow n) (heldBelow (suc n)) (K .from) (K .to) (K .upto) off (on (eqb-true _ _ t)) outside
-            (size (shapeOf s)) (K .below) in
-            rw t (omega (arith, K .long, more))
-        go false t =
-            let same = count-same (heldBelow (suc n)) (heldBelow n) (size (shapeOf s))
-            (λ p l. same-below n p (λ a e q. eqb-false _ _ t q)) in
-            rw t (omega (arith, same))
-
-    count-runs : (n : ℕ) → n ≤ s .figures .runs → count (heldBelow n) (size (shapeOf s)) ≡ runCells L ws g n
-    unfolding runCells
-    count-runs zero h =
-        ap (count (heldBelow 0)) (sym (zero-add (size (shapeOf s))))
-        ∙ count-beyond (heldBelow 0) 0 (size (shapeOf s)) none
-        ∙ count-none (heldBelow 0)
-      where
-        none : (p : ℕ) → 0 ≤ p → heldBelow 0 p ≡ false
-        none p l = go (nonzero cells p)
-          where
-            go : (b : Bool) → (b && (ltb (holderOf s ws p) 0 && eqb (number (holderOf s ws p)) g)) ≡ false
-            go true = rw (le-ltb (holderOf s ws p) 0 (omega arith)) refl
-            go false = refl
-    count-runs (suc n) h =
-        count-run n h
-        ∙ ap (λ (k : ℕ). cond (eqb (number n) g) (runEnd L ws n - runStart L ws n) 0 + k) (count-runs n (omega arith))
-
-    cells-counted : runCells L ws g (s .figures .runs) ≡ count (heldBelow (s .figures .runs)) (size (shapeOf s))
-    cells-counted = sym (count-runs (s .figures .runs) (le-refl (s .figures .runs)))
-
-    -- a zero or an unfed cell has the number 0, which is no group's
-    size-runs : 0 < g → sizeAt s ws g ≡ runCells (linesOf s) ws g (s .figures .runs)
-    unfolding sizeAt numberAt
-    size-runs h = count-same _ (heldBelow (s .figures .runs)) (size (shapeOf s)) (λ p l. at p (nonzero cells p) refl) ∙ sym cells-counted
-      where
-        at : (p : ℕ) (b : Bool) → nonzero cells p ≡ b
-            → eqb (cond (nonzero cells p) (number (holderOf s ws p)) 0) g ≡ heldBelow (s .figures .runs) p
-        at p true a =
-            let l : holderOf s ws p < s .figures .runs = rw (stores-holder s ws cells H p a) (stores-below s ws cells H p a) in
-            rw (a, lt-ltb (holderOf s ws p) (s .figures .runs) l) refl
-        at p false a = rw a (ne-eqb 0 g (λ z. omega arith))
-
-    -- no more than the frame's cells
-    cells-fit : runCells L ws g (s .figures .runs) < 4294967296
-    cells-fit = omega (arith, cells-counted, count-most (heldBelow (s .figures .runs)) (size (shapeOf s)), limits s ws S .2)
-
-  -- ---- ready, and written
-
   sizes-ready : (n : ℕ) → n ≡ rootCount s ws → SizesReady (linesOf s) (s .figures .runs) ws n
   unfolding rootCount
-  sizes-ready n e = record {
-    runs = names-ready s ws S;
-    upward = λ r h. omega (arith, S .words .nonempty r h);
-    groups = e;
-    small = cells-fit;
-  }
+  sizes-ready n e = record { runs = names-ready s ws S; groups = e }
 
-  written-sizes : (ws′ out out′ : List ℕ) → length out ≡ rootCount s ws
-      → SizesWritten (linesOf s) (s .figures .runs) ws ws′ out out′ → (ws′ ≡ withNames s ws) × (out′ ≡ sizesHeld s ws)
-  unfolding withNames
-  written-sizes ws′ out out′ e W = (
-    W .names,
-    ext-getD 0 out′ (sizesHeld s ws)
-        (W .long ∙ e ∙ sym (length-map (range 1 (rootCount s ws)) (sizeAt s ws) ∙ length-range 1 (rootCount s ws)))
-        (λ g h. let l : g < length out = rw (W .long) at h in W .counts g l ∙ sym (size-listed g (rw e at l))),
-  )
-    where
-      size-listed : (g : ℕ) → g < rootCount s ws → getD (sizesHeld s ws) g 0 ≡ runCells L ws (suc g) (s .figures .runs)
-      size-listed g l =
-          let q : 1 + g ≡ suc g = omega arith in
-          listed-from (sizeAt s ws) 1 (rootCount s ws) g 0 l ∙ ap (sizeAt s ws) q ∙ size-runs (suc g) (omega arith)
+  written-sizes : (ws′ out′ : List ℕ) → SizesWritten (linesOf s) (s .figures .runs) ws ws′ out′
+      → (ws′ ≡ withNames s ws) × (out′ ≡ sizesHeld s ws)
+  unfolding withNames sizesHeld
+  written-sizes ws′ out′ W = (W .names, W .sizes)
 
 -- ---- where the check of a size call passed
 
@@ -281,18 +52,18 @@ module _ (s : Session) (ws : List ℕ) (places : ℕ) {r : Checked} (F : RecordF
     pub passed-counts : SizesReady (r .geo .lines) (s .figures .runs) ws places
     passed-counts = rw lines-are (sizes-ready s ws (given .0) places (given .1))
 
-    written : {ws′ out out′ : List ℕ} → SizesWritten (r .geo .lines) (s .figures .runs) ws ws′ out out′
-        → SizesWritten (linesOf s) (s .figures .runs) ws ws′ out out′
+    written : {ws′ out′ : List ℕ} → SizesWritten (r .geo .lines) (s .figures .runs) ws ws′ out′
+        → SizesWritten (linesOf s) (s .figures .runs) ws ws′ out′
     written W = rw (← lines-are) W
 
 pub passed-sizes : {s : Session} {ws out : List ℕ} {r : Checked} → RecordFound s (sizesCauseOf s ws (length out)) r
     → {t : Bool} → t ≡ ltb 0 (checkNumber (r .check)) → t ≡ false
-    → {ws′ out′ : List ℕ} → SizesWritten (r .geo .lines) (s .figures .runs) ws ws′ out out′
+    → {ws′ out′ : List ℕ} → SizesWritten (r .geo .lines) (s .figures .runs) ws ws′ out′
     → {s′ : Session} {a : Answer}
     → (s′ ≡ s) × (a ≡ unless (checkNumber (r .check)) (counted (s .figures .runs - s .figures .joins) (s .figures)))
     → SizesPromise s ws out a s′ ws′ out′
 passed-sizes {s} {ws} {out} F is left {ws′} {out′} W A =
     let g = given s ws (length out) F is left in
-    let counts = written-sizes s ws (g .0) ws′ out out′ (g .1) (written s ws (length out) F is left W) in
+    let counts = written-sizes s ws (g .0) ws′ out′ (written s ws (length out) F is left W) in
     let said = A .1 ∙ unless-none _ _ (passed-none _ _ is left) in
     sizes-promise s ws out (passed-cause s F is left) ws′ out′ counts _ said _ (A .0)

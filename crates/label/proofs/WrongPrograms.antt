@@ -1,6 +1,7 @@
 -- Programs that a promise refuses: the cheats of document 01's "For whoever tests it", and more. What is not spoilt is left open.
 -- Assumes nothing.
 use mathlib.Core.Path.{_≡_, refl, ap}
+use mathlib.Core.Bool.{true, false}
 use mathlib.Core.List.{List, [], _∷_, _++_}
 use Prim.Native.Nat.{ℕ, suc, _≤_, _<_}
 use native.Mathlib.Omega.{arith}
@@ -8,7 +9,7 @@ use lib.ListN.{length, getD, set, replicate}
 use Rattle.frame.specs.Kinds.{u8}
 use Rattle.frame.specs.declared.Figures.{Figures}
 use Rattle.frame.specs.Plain.{Answer, fed, counted, refused}
-use Rattle.frame.specs.Words.{namePlace, parentOf}
+use Rattle.frame.specs.Words.{parentPlace, namePlace, sizePlace, parentOf}
 use Rattle.frame.proofs.SetLaws.{setAll-other, setAll-at}
 use Rattle.forest.specs.Forest.{numberIn}
 use Rattle.label.specs.declared.Session.{Session}
@@ -17,6 +18,7 @@ use Rattle.label.specs.Feeding.{FeedPromise}
 use Rattle.label.specs.Reading.{withNames, ReadPromise, SizesPromise}
 use Rattle.label.specs.WholeFrame.{FramePromise}
 use Rattle.label.proofs.Worked.{computed, frame, cross, memory, line, whole, f, begun, one, two, junk, wide, wideWords, put, held}
+use Rattle.label.proofs.Worked.{sized, together}
 
 -- word j
 abbrev word : ℕ → List ℕ → ℕ
@@ -45,12 +47,12 @@ unfolding computed
 always-refuses n s ws P = let z : suc n ≡ 0 = P .said in omega arith
 
 -- it clears all words
-clears : (n : ℕ) (s : Session) → OpenPromise frame cross memory n s (replicate 28 0) → ⊥
+clears : (n : ℕ) (s : Session) → OpenPromise frame cross memory n s (replicate 34 0) → ⊥
 unfolding computed
 clears n s P = let z : _≡_ {A = ℕ} 0 7 = ap (word 1) (P .words) in omega arith
 
 -- refused, it writes word 0
-opens-anyway : (n : ℕ) (s : Session) → OpenPromise frame cross (replicate 27 7) n s (0 ∷ replicate 26 7) → ⊥
+opens-anyway : (n : ℕ) (s : Session) → OpenPromise frame cross (replicate 33 7) n s (0 ∷ replicate 32 7) → ⊥
 unfolding computed
 opens-anyway n s P = let z : _≡_ {A = ℕ} 0 7 = ap (word 0) (P .words) in omega arith
 
@@ -62,7 +64,7 @@ takes-lopsided : (s : Session) (ws : List ℕ) → OpenPromise frame armless mem
 unfolding armless computed
 takes-lopsided s ws P = let z : _≡_ {A = ℕ} 0 12 = P .said in omega arith
 
-words-before-structure : (s : Session) (ws : List ℕ) → OpenPromise frame armless (replicate 27 7) 5 s ws → ⊥
+words-before-structure : (s : Session) (ws : List ℕ) → OpenPromise frame armless (replicate 33 7) 5 s ws → ⊥
 unfolding armless computed
 words-before-structure s ws P = let z : _≡_ {A = ℕ} 5 12 = P .said in omega arith
 
@@ -75,12 +77,12 @@ abbrev Third : Answer → Session → List ℕ → Type 0
 Third = FeedPromise (two .session) (two .words) 1 whole
 
 -- it unites lines only in the first call: the second's runs stay apart
-first-only : (a : Answer) (s : Session) → Second a s (set (put 14 2) 18 3) → ⊥
+first-only : (a : Answer) (s : Session) → Second a s (set (put (parentPlace 3 2) 2) (parentPlace 3 3) 3) → ⊥
 unfolding begun one two computed
 first-only a s P = let z : _≡_ {A = ℕ} 2 0 = P .accepted refl .grouped 2 (omega arith) in omega arith
 
 -- it unites all
-unites-all : (a : Answer) (s : Session) → Second a s (set (put 10 0) 18 0) → ⊥
+unites-all : (a : Answer) (s : Session) → Second a s (set (put (parentPlace 3 1) 0) (parentPlace 3 3) 0) → ⊥
 unfolding begun one two computed
 unites-all a s P = let z : _≡_ {A = ℕ} 0 1 = P .accepted refl .grouped 1 (omega arith) in omega arith
 
@@ -109,7 +111,7 @@ stores-nothing a ws P = let z : _≡_ {A = ℕ} 1 2 = ap (λ (x : Session). x .f
 
 stores-no-words : (a : Answer) (s : Session) → Second a s (one .words) → ⊥
 unfolding begun one computed
-stores-no-words a s P = let z : _≡_ {A = ℕ} 7 4 = P .accepted refl .others 2 (λ r h e. omega arith) in omega arith
+stores-no-words a s P = let z : _≡_ {A = ℕ} 7 4 = P .accepted refl .others 2 (λ r h. (omega arith, omega arith)) in omega arith
 
 -- joins invented, or padded with idle unions: in the record, in the answer
 padded-joins : (a : Answer) (ws : List ℕ) → Third a (held 3 5 5 7) ws → ⊥
@@ -134,7 +136,7 @@ unfolding begun one two computed
 total-kept a ws P = let z : _≡_ {A = ℕ} 4 7 = ap (λ (x : Session). x .figures .cells) (P .session) in omega arith
 
 -- a record whose total is not the sum of its run lengths is fed
-feeds-any-total : (l : ℕ) (g : Figures) (s : Session) (ws : List ℕ) → FeedPromise (held 2 4 2 5) (two .words) 1 whole (fed l g) s ws → ⊥
+feeds-any-total : (l : ℕ) (g : Figures) (s : Session) (ws : List ℕ) → FeedPromise (held 2 4 2 5) (sized 2 3) 1 whole (fed l g) s ws → ⊥
 unfolding begun one two computed
 feeds-any-total l g s ws P = let z : _≡_ {A = ℕ} 0 6 = ap numberSaid (P .said) in omega arith
 
@@ -146,26 +148,58 @@ early-seven s ws P = let z : _≡_ {A = ℕ} 7 0 = ap numberSaid (P .said) in om
 -- it changes a name; the end of a run that was there
 changes-name : (a : Answer) (s : Session) (ws : List ℕ) → Third a s ws → word 7 ws ≡ 1 → ⊥
 unfolding begun one two computed
-changes-name a s ws P e = let z : word 7 ws ≡ 7 = P .accepted refl .others 7 (λ r h q. omega arith) in omega arith
+changes-name a s ws P e = let z : word 7 ws ≡ 7 = P .accepted refl .others 7 (λ r h. (omega arith, omega arith)) in omega arith
 
 changes-run : (a : Answer) (s : Session) (ws : List ℕ) → Third a s ws → word 5 ws ≡ 2 → ⊥
 unfolding begun one two computed
-changes-run a s ws P e = let z : word 5 ws ≡ 1 = P .accepted refl .others 5 (λ r h q. omega arith) in omega arith
+changes-run a s ws P e = let z : word 5 ws ≡ 1 = P .accepted refl .others 5 (λ r h. (omega arith, omega arith)) in omega arith
 
 -- run 1's parent is run 4
-parent-above : (a : Answer) (s : Session) (ws : List ℕ) → Third a s ws → word 10 ws ≡ 4 → ⊥
+parent-above : (a : Answer) (s : Session) (ws : List ℕ) → Third a s ws → word (parentPlace 3 1) ws ≡ 4 → ⊥
 unfolding begun one two computed
-parent-above a s ws P e = let z : word 10 ws ≤ 1 = P .accepted refl .parents 1 (omega arith) in omega arith
+parent-above a s ws P e = let z : word (parentPlace 3 1) ws ≤ 1 = P .accepted refl .parents 1 (omega arith) in omega arith
 
 -- run 2 is the root of runs 0 and 2
-larger-root : (a : Answer) (s : Session) → Second a s (set (put 6 2) 14 2) → ⊥
+larger-root : (a : Answer) (s : Session) → Second a s (set (put (parentPlace 3 0) 2) (parentPlace 3 2) 2) → ⊥
 unfolding begun one two computed
 larger-root a s P = let z : _≡_ {A = ℕ} 2 0 = P .accepted refl .grouped 2 (omega arith) in omega arith
 
 -- a feed of no lines halves the way from run 3 over run 1 to run 0: the grouping stands, but a word changes
-halves : (a : Answer) (s : Session) → FeedPromise (held 2 4 3 4) (put 10 0) 0 [] a s (set (put 10 0) 18 0) → ⊥
+halves : (a : Answer) (s : Session) → FeedPromise (held 2 4 3 4) together 0 [] a s (set together (parentPlace 3 3) 0) → ⊥
 unfolding begun one two computed
-halves a s P = let z : _≡_ {A = ℕ} 0 1 = ap (word 18) (P .accepted refl .no-lines refl) in omega arith
+halves a s P = let z : _≡_ {A = ℕ} 0 1 = ap (word (parentPlace 3 3)) (P .accepted refl .no-lines refl) in omega arith
+
+-- fifth words. The third line joins the groups of runs 0 and 1, which have 2 cells each, with its own 3: a join overwrites the root's word;
+-- the new run gets 1; the larger root gets the sum
+overwrites : (a : Answer) (s : Session) (ws : List ℕ) → Third a s ws → word (sizePlace 3 0) ws ≡ 2 → ⊥
+unfolding begun one two computed
+overwrites a s ws P e = let z : word (sizePlace 3 0) ws ≡ 7 = P .accepted refl .sized 0 (omega arith) refl in omega arith
+
+new-run-is-one : (a : Answer) (s : Session) (ws : List ℕ) → Third a s ws → word (sizePlace 3 0) ws ≡ 5 → ⊥
+unfolding begun one two computed
+new-run-is-one a s ws P e = let z : word (sizePlace 3 0) ws ≡ 7 = P .accepted refl .sized 0 (omega arith) refl in omega arith
+
+-- of a record of other origin it counts cells, where the words are to be added
+abbrev Other : Answer → Session → List ℕ → Type 0
+Other = FeedPromise (two .session) (sized 3 1) 1 (true ∷ false ∷ false ∷ [])
+
+counts-cells : (a : Answer) (s : Session) (ws : List ℕ) → Other a s ws → word (sizePlace 3 0) ws ≡ 3 → ⊥
+unfolding begun one two computed
+counts-cells a s ws P e = let z : word (sizePlace 3 0) ws ≡ 4 = P .accepted refl .sized 0 (omega arith) refl in omega arith
+
+changes-other-root : (a : Answer) (s : Session) (ws : List ℕ) → Other a s ws → word (sizePlace 3 1) ws ≡ 2 → ⊥
+unfolding begun one two computed
+changes-other-root a s ws P e = let z : word (sizePlace 3 1) ws ≡ 1 = P .accepted refl .sized 1 (omega arith) refl in omega arith
+
+-- it feeds a record whose roots' words do not add up to the total; whose sum is the total in 32 bits alone
+feeds-any-sizes : (l : ℕ) (g : Figures) (s : Session) (ws : List ℕ) → FeedPromise (two .session) (sized 3 2) 1 whole (fed l g) s ws → ⊥
+unfolding begun one two computed
+feeds-any-sizes l g s ws P = let z : _≡_ {A = ℕ} 0 6 = ap numberSaid (P .said) in omega arith
+
+feeds-wrapped-sizes : (l : ℕ) (g : Figures) (s : Session) (ws : List ℕ)
+    → FeedPromise (two .session) (sized 2147483650 2147483650) 1 whole (fed l g) s ws → ⊥
+unfolding begun one two computed
+feeds-wrapped-sizes l g s ws P = let z : _≡_ {A = ℕ} 0 6 = ap numberSaid (P .said) in omega arith
 
 -- two lines where one is left: refused, it writes a line's start; it stores the lines
 writes-refused : (a : Answer) (s : Session) (ws : List ℕ) → FeedPromise (two .session) (two .words) 2 (line ++ line) a s ws → word 3 ws ≡ 6
@@ -248,6 +282,18 @@ no-cells-told : (s : Session) (ws out : List ℕ) → Sizing (counted 2 (f 4 2 0
 unfolding begun one two computed
 no-cells-told s ws out P = let z : _≡_ {A = ℕ} 0 4 = ap cellsSaid (P .said) in omega arith
 
+-- of a record of other origin: the larger number's size first; the cells are counted
+abbrev OtherSizing : Answer → Session → List ℕ → List ℕ → Type 0
+OtherSizing = SizesPromise (two .session) (sized 3 1) (5 ∷ 5 ∷ [])
+
+sizes-turned : (a : Answer) (s : Session) (ws : List ℕ) → OtherSizing a s ws (1 ∷ 3 ∷ []) → ⊥
+unfolding begun one two computed
+sizes-turned a s ws P = let z : _≡_ {A = ℕ} 1 3 = ap (word 0) (P .output) in omega arith
+
+sizes-counted : (a : Answer) (s : Session) (ws : List ℕ) → OtherSizing a s ws (2 ∷ 2 ∷ []) → ⊥
+unfolding begun one two computed
+sizes-counted a s ws P = let z : _≡_ {A = ℕ} 2 3 = ap (word 0) (P .output) in omega arith
+
 names-none : (a : Answer) (s : Session) (out : List ℕ) → Sizing a s (two .words) out → ⊥
 unfolding begun one two computed
 names-none a s out P = let z : _≡_ {A = ℕ} 7 1 = ap (word 7) (P .words) in omega arith
@@ -281,7 +327,7 @@ whole-stores a ws out P e =
     let n : ws ≡ withNames (held 3 5 4 7) v = rw s at (F .names) in
     let names : word 1 (withNames (held 3 5 4 7) v) ≡ word 1 v = setAll-other (namePlace 3) (numberIn (parentOf 3 v)) 5 v 1
     (λ r h q. omega arith) in
-    let z : word 1 v ≡ 2 = F .fed-all .accepted refl .others 1 (λ r h q. omega arith) in
+    let z : word 1 v ≡ 2 = F .fed-all .accepted refl .others 1 (λ r h. (omega arith, omega arith)) in
     omega (arith, ap (word 1) n)
 
 whole-names : (a : Answer) (ws out : List ℕ) → Labels junk a ws out → word 7 ws ≡ 7 → ⊥
@@ -291,7 +337,7 @@ whole-names a ws out P e =
     let v = F .fed-words in
     let s : F .session ≡ held 3 5 4 7 = F .fed-all .session in
     let n : ws ≡ withNames (held 3 5 4 7) v = rw s at (F .names) in
-    let long : length v ≡ 28 = F .fed-all .accepted refl .long in
+    let long : length v ≡ 34 = F .fed-all .accepted refl .long in
     let low : word 6 v ≤ 0 = F .fed-all .accepted refl .parents 0 (omega arith) in
     let root : word 6 v ≡ 0 = omega arith in
     let names : word 7 (withNames (held 3 5 4 7) v) ≡ numberIn (parentOf 3 v) 0 = setAll-at (namePlace 3) (numberIn (parentOf 3 v)) 5 v

@@ -6,16 +6,16 @@ use mathlib.Core.List.{List}
 use Prim.Native.Nat.{ℕ, suc, _+_, _-_, _≤_, _<_}
 use lib.Dec.{ltb, leb}
 use lib.ListN.{length, getD}
-use Rattle.groups.specs.Groups.{Edge, rep, joins, visit}
+use Rattle.groups.specs.Groups.{Edge, rep, groupSum, joins, visit}
 use Rattle.frame.specs.Shape.{width, leading}
-use Rattle.frame.specs.Runs.{runs, nonzeroCells, Run, runsBefore, frameRun}
+use Rattle.frame.specs.Runs.{runs, nonzeroCells, Run, runLength, runsBefore, frameRun}
 use Rattle.frame.specs.Touches.{touches}
 use Rattle.frame.specs.Causes.{feedCause}
 use Rattle.frame.specs.declared.Figures.{Figures}
 use Rattle.frame.specs.Plain.{Answer, fed, unless, kept}
-use Rattle.frame.specs.Words.{linePlace, startPlace, endPlace, lineStart, parentOf, storedRun, NoParent}
+use Rattle.frame.specs.Words.{linePlace, startPlace, endPlace, lineStart, parentOf, sizeWord, storedRun, NoGroupWord}
 use Rattle.frame.specs.Lists.{setAll}
-use Rattle.forest.specs.Forest.{rootOf}
+use Rattle.forest.specs.Forest.{rootOf, brought}
 use Rattle.label.specs.declared.Session.{Session}
 use Rattle.label.specs.Record.{shapeOf, structureOf, linesOf, withFigures}
 use Rattle.label.specs.Sound.{sound}
@@ -36,6 +36,11 @@ runAfter s ws cells r =
     cond (ltb r (s .figures .runs)) (storedRun (linesOf s) ws r)
     (frameRun (shapeOf s) (structureOf s) cells (r - s .figures .runs))
 
+-- what run r brings to its group: a root that the words hold its fifth word, a new run its length
+unfoldable pub feedBrings : Session → List ℕ → List Bool → ℕ → ℕ
+feedBrings s ws cells r =
+    brought (s .figures .runs) (parentOf (linesOf s) ws) (sizeWord (linesOf s) ws) (λ q. runLength (runAfter s ws cells q)) r
+
 module _ (s : Session) (ws : List ℕ) (k : ℕ) (cells : List Bool) where
   -- ---- the grouping afterwards
 
@@ -47,6 +52,11 @@ module _ (s : Session) (ws : List ℕ) (k : ℕ) (cells : List Bool) where
   unfoldable pub feedEdges : List Edge
   feedEdges = visit feedTouches (groupingOf s ws)
 
+  -- ---- the size of each group afterwards: the sum of what its runs bring
+
+  unfoldable pub sizeAfter : ℕ → ℕ
+  sizeAfter r = groupSum (rep feedEdges) (feedBrings s ws cells) (runsAfter s cells) r
+
   -- ---- the record afterwards
 
   abbrev pub figuresAfter : Figures
@@ -55,7 +65,7 @@ module _ (s : Session) (ws : List ℕ) (k : ℕ) (cells : List Bool) where
   unfoldable pub feedRecord : Session
   feedRecord = withFigures s (s .fed + k) figuresAfter
 
-  -- ---- the words afterwards, parents aside: the new line starts, and the new runs' starts and ends, are written
+  -- ---- the words afterwards, group words aside: the new line starts, and the new runs' starts and ends, are written
 
   unfoldable pub withLines : List ℕ
   withLines = setAll (λ i. linePlace (s .fed + suc i)) (λ i. startAfter s ws cells (s .fed + suc i)) k ws
@@ -74,11 +84,13 @@ module _ (s : Session) (ws : List ℕ) (k : ℕ) (cells : List Bool) where
 
   pub record FeedWords (ws′ : List ℕ) : Type 0 where
     pub long : length ws′ ≡ length ws
-    -- every word that is no run's parent
-    pub others : (j : ℕ) → NoParent (linesOf s) (runsAfter s cells) j → getD ws′ j 0 ≡ getD withRuns j 0
+    -- every word that is no run's parent and no run's fifth
+    pub others : (j : ℕ) → NoGroupWord (linesOf s) (runsAfter s cells) j → getD ws′ j 0 ≡ getD withRuns j 0
     -- of the parents only: none is above its run, and they give the grouping, a group's root being its smallest run
     pub parents : (r : ℕ) → r < runsAfter s cells → parentOf (linesOf s) ws′ r ≤ r
     pub grouped : (r : ℕ) → r < runsAfter s cells → rootOf (parentOf (linesOf s) ws′) r ≡ rep feedEdges r
+    -- of the fifth words only those of roots: the sum of what the group's runs bring
+    pub sized : (r : ℕ) → r < runsAfter s cells → rep feedEdges r ≡ r → sizeWord (linesOf s) ws′ r ≡ sizeAfter r
     -- with k = 0 nothing changes
     pub no-lines : k ≡ 0 → ws′ ≡ ws
 

@@ -5,14 +5,14 @@ use mathlib.Core.Logic.{_⊎_}
 use mathlib.Core.Bool.{true, Bool, cond, _&&_}
 use mathlib.Core.List.{List, map}
 use Prim.Native.Nat.{ℕ, suc, _*_, _/_, _%_}
-use lib.Dec.{eqb, ltb, leb}
-use Rattle.groups.specs.Groups.{Edge, Joined, count}
+use lib.Dec.{ltb, leb}
+use Rattle.groups.specs.Groups.{Edge, Joined}
 use Rattle.frame.specs.Shape.{size, width}
 use Rattle.frame.specs.ChainRule.{nonzero, any, range}
 use Rattle.frame.specs.Kinds.{Number, Value, write}
-use Rattle.frame.specs.Words.{lineStart, runStart, runEnd, parentOf}
+use Rattle.frame.specs.Words.{lineStart, runStart, runEnd, parentOf, sizeWord}
 use Rattle.frame.specs.Lists.{lastBelow}
-use Rattle.forest.specs.Forest.{roots, numberIn, grouping}
+use Rattle.forest.specs.Forest.{roots, numberIn, grouping, sizeList}
 use Rattle.label.specs.declared.Session.{Session}
 use Rattle.label.specs.Record.{shapeOf, linesOf}
 
@@ -59,14 +59,11 @@ module _ (s : Session) (ws : List ℕ) where
   unfoldable pub numberAt : ℕ → ℕ
   numberAt p = cond (nonzero cellsOf p) (numberIn parent (holderOf p)) 0
 
-  -- how many cells have number g
-  unfoldable pub sizeAt : ℕ → ℕ
-  sizeAt g = count (λ p. eqb (numberAt p) g) (size (shapeOf s))
-
   -- ---- what a reading and a size call write
 
   abbrev pub numbersHeld : (kind : Number) → List (Value kind)
   numbersHeld kind = map (λ p. write kind (numberAt p)) (range 0 (size (shapeOf s)))
 
-  abbrev pub sizesHeld : List ℕ
-  sizesHeld = map sizeAt (range 1 rootCount)
+  -- the roots' words, in the order of their numbers
+  unfoldable pub sizesHeld : List ℕ
+  sizesHeld = sizeList parent (sizeWord (linesOf s) ws) (s .figures .runs)

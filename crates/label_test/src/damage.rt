@@ -1,6 +1,7 @@
 // Damaged records and memories: one field or word changed so that a clause of document 01's "Unsound, exactly" holds, or the total made
-// wrong, or the structure lopsided. A feed, a reading and a size call that would be accepted must then get 6 and leave record, words and
-// output as they were. Where a run is damaged the total is made that of the damaged runs, so that it is not the total that tells.
+// wrong, or the structure lopsided, or the sizes of roots such that they do not add up to the total. A feed, a reading and a size call that
+// would be accepted must then get 6 and leave record, words and output as they were. Where a run is damaged the total is made that of the
+// damaged runs, and the sizes such that they add up to it, so that it is neither that tells.
 use flood::Extent;
 use flood::get;
 use flood::layout;
@@ -15,8 +16,9 @@ use samples::tally;
 use trial::answers;
 use trial::answers::Done;
 
-// The damages: of the record, of which the last are its total's and its structure's, then of the line starts, then of a run, then the
-// shorter memory. The last is none, for which the calls are accepted.
+// The damages: of the record, of which the last are its total's and its structure's, then of the line starts, then of a run, then of the
+// sizes, then the shorter memory. The last two are none, for which the calls are accepted: any sizes at runs that are no roots, and
+// nothing.
 const TOTAL: usize = 10;
 
 const STRUCTURE: usize = 14;
@@ -27,9 +29,15 @@ const CROWDED: usize = 18;
 
 const RUNS: usize = 19;
 
-const SHORTER: usize = 27;
+const SIZES: usize = 27;
 
-const NONE: usize = 28;
+const WRAPPED_TOTAL: usize = 33;
+
+const SHORTER: usize = 34;
+
+const FREE: usize = 35;
+
+const NONE: usize = 36;
 
 // ---- records
 
@@ -89,8 +97,8 @@ fn damage_figures(figures: frame::Figures, cells: usize, d: usize) -> frame::Fig
     frame::Figures {
         runs: less(plus(figures.runs, (d == 6) as usize), (d == 7) as usize),
         joins: less(plus(figures.joins, (d == 8) as usize), (d == 9) as usize),
-        cells: if d < TOTAL {
-            cells
+        cells: if d == WRAPPED_TOTAL {
+            plus(cells, 4294967296)
         } else {
             damage_total(cells, less(d, TOTAL))
         },
@@ -167,10 +175,10 @@ fn line_mates(words: &[u32], fed: usize, r: usize) -> bool {
 fn run_place(d: usize) -> usize {
     match d {
         0 => 0,
-        1 => 1,
-        2..=4 => 4,
-        5 => 1,
-        _ => 2,
+        1 => layout::END,
+        2..=4 => layout::STRIDE,
+        5 => layout::END,
+        _ => layout::PARENT,
     }
 }
 
@@ -203,12 +211,56 @@ fn breaks_run(mates: bool, left: bool, other: bool, d: usize) -> bool {
 fn damage_run(words: &mut [u32], e: Extent, fed: usize, runs: usize, r: usize, d: usize) -> bool {
     let at = layout::run_word(e, r, 0);
     let start = get(words, at) as usize;
-    let end = get(words, plus(at, 1)) as usize;
-    let parent = get(words, plus(at, 2)) as usize;
+    let end = get(words, plus(at, layout::END)) as usize;
+    let parent = get(words, plus(at, layout::PARENT)) as usize;
     let mates = line_mates(words, fed, r);
     let breaks = breaks_run(mates, e.left, (parent != r) | (r > 0), d);
     let x = run_value(r, start, end, parent, e.width, d);
     (r < runs) & breaks & change(words, plus(at, run_place(d)), x)
+}
+
+// Of a root's size: 0, one more; 1, one less; 2, the largest number; 3, 0; 4, 2^16 more; and from 5 on 2^31 more, as another root's then
+// is, so that the sizes add up to 2^32 more than they should.
+fn size_value(size: usize, d: usize) -> usize {
+    match d {
+        0 => plus(size, 1),
+        1 => less(size, 1),
+        2 => 4294967295,
+        3 => 0,
+        4 => plus(size, 65536),
+        _ => plus(size, 2147483648),
+    }
+}
+
+fn damage_size(words: &mut [u32], e: Extent, runs: usize, d: usize, x: u64) -> bool {
+    let root = layout::root_of(words, e, below(x, runs));
+    let other = layout::root_of(words, e, below(samples::next(x), runs));
+    let both = d > 4;
+    if (runs == 0) | (both & (root == other)) {
+        return false;
+    }
+    let place = layout::run_word(e, other, layout::SIZE);
+    let before = get(words, place) as usize;
+    put(
+        words,
+        place,
+        word(if both { size_value(before, d) } else { before }),
+    );
+    let at = layout::run_word(e, root, layout::SIZE);
+    let value = size_value(get(words, at) as usize, d);
+    change(words, at, value)
+}
+
+// The sizes that a damaged run leaves add up to what its lengths do.
+fn damage_stored(words: &mut [u32], e: Extent, session: Session, d: usize, x: u64) -> bool {
+    let runs = session.figures.runs;
+    if d >= SIZES {
+        return damage_size(words, e, runs, less(d, SIZES), x);
+    }
+    let broken = damage_run(words, e, session.fed, runs, below(x, runs), less(d, RUNS));
+    let cells = layout::sum_lengths(words, e, runs);
+    layout::lump_sizes(words, e, runs, word(cells));
+    broken
 }
 
 fn damage_words(words: &mut [u32], e: Extent, session: Session, d: usize, x: u64) -> bool {
@@ -224,7 +276,21 @@ fn damage_words(words: &mut [u32], e: Extent, session: Session, d: usize, x: u64
         crowd(words, fed);
         return runs > layout::most_runs(e);
     }
-    damage_run(words, e, fed, runs, below(x, runs), less(d, RUNS))
+    damage_stored(words, e, session, d, x)
+}
+
+// The same; and any words for the sizes of runs that are no roots, where nothing else is to be changed.
+fn damage_memory(
+    words: &mut [u32],
+    e: Extent,
+    session: Session,
+    d: usize,
+    state: &mut [u64; 48],
+) -> bool {
+    let worse = damage_words(words, e, session, d, tally::random(state));
+    let free = times(session.figures.runs, (d == FREE) as usize);
+    samples::spoil_sizes(words, e, free, tally::random(state));
+    worse
 }
 
 // ---- the calls
@@ -259,7 +325,7 @@ fn call_all(
     e: Extent,
     n: usize,
     right: usize,
-    state: &mut [u64; 40],
+    state: &mut [u64; 48],
 ) {
     for kind in 1..4 {
         let places = crate::sessions::exact_places(kind, e, n);
@@ -272,15 +338,15 @@ fn call_all(
 fn try_damage(
     session: Session,
     e: Extent,
-    words: [u32; 3201],
+    words: [u32; 3841],
     n: usize,
     d: usize,
-    state: &mut [u64; 40],
+    state: &mut [u64; 48],
 ) {
     let mut bad = words;
-    let worse = damage_words(&mut bad, e, session, d, tally::random(state));
+    let worse = damage_memory(&mut bad, e, session, d, state);
     let broken = worse | breaks_record(session.rank, d) | (d == SHORTER);
-    if !broken & (d != NONE) {
+    if !broken & (d < FREE) {
         return;
     }
     let kept = bad;
@@ -299,15 +365,15 @@ fn try_damage(
     tally::count(state, plus(tally::UNDAMAGED, broken as usize), 0, agreed);
 }
 
-fn try_damages(session: Session, e: Extent, words: [u32; 3201], n: usize, state: &mut [u64; 40]) {
-    for d in 0..29 {
+fn try_damages(session: Session, e: Extent, words: [u32; 3841], n: usize, state: &mut [u64; 48]) {
+    for d in 0..37 {
         try_damage(session, e, words, n, d, state);
     }
 }
 
 // A session with some lines fed, and every damage in turn.
-pub fn try_damaged(shape: &[usize], structure: &[u8], flags: &[u8], state: &mut [u64; 40]) {
-    let mut words = [7u32; 3201];
+pub fn try_damaged(shape: &[usize], structure: &[u8], flags: &[u8], state: &mut [u64; 48]) {
+    let mut words = [7u32; 3841];
     let e = flood::extent_of(shape, structure);
     let fed = below(tally::random(state), plus(e.lines, 1));
     let opened = trial::open(shape, structure, &mut words);

@@ -1,29 +1,32 @@
-// Sessions at run time, against a plain labelling by flood fill: random calls, damaged records and memories, and fixed cases of the
-// causes.
+// Sessions at run time, against a plain labelling by flood fill: random calls, sizes after each line, records of other origin, damaged
+// records and memories, and fixed cases of the causes.
 mod damage;
 mod fixed;
+mod origin;
 mod sessions;
 
 use samples::tally;
 
 // One random frame.
-fn try_frame(state: &mut [u64; 40]) {
+fn try_frame(state: &mut [u64; 48]) {
     let mut structure = [0u8; 81];
     let mut flags = [0u8; 640];
     let shape = samples::random_frame(state, &mut structure, &mut flags);
     let used = samples::first_sizes(&shape.entries, shape.rank);
     let bytes = samples::first(&structure, samples::power3(shape.rank));
     sessions::try_calls(used, bytes, &flags, state);
+    sessions::try_lines(used, bytes, &flags, state);
+    origin::try_origin(used, bytes, &flags, state);
     damage::try_damaged(used, bytes, &flags, state);
 }
 
-fn try_frames(state: &mut [u64; 40]) {
+fn try_frames(state: &mut [u64; 48]) {
     for i in 0..4000usize {
         try_frame(state);
     }
 }
 
-fn report(state: &[u64; 40]) {
+fn report(state: &[u64; 48]) {
     tally::report(
         state,
         b"sessions: #\nfeeds: #\nreadings and size calls: #\n",
@@ -35,7 +38,16 @@ fn report(state: &[u64; 40]) {
         b"cells u8: #\ncells u16: #\ncells i16: #\ncells f32: #\nnumbers u8: #\nnumbers u16: #\nnumbers u32: #\nsizes: #\n",
         tally::CODES,
     );
-    tally::report(state, b"damaged records and memories: #\n", tally::DAMAGED);
+    tally::report(
+        state,
+        b"lines fed one by one, each with a size call: #\nrecords with sizes of other origin: #\n  and with a link of other origin: #\n",
+        tally::SIZED_LINES,
+    );
+    tally::report(
+        state,
+        b"records left whole, or with any sizes at runs that are no roots: #\ndamaged records and memories: #\n",
+        tally::UNDAMAGED,
+    );
     tally::report(
         state,
         b"refused 1: #\nrefused 2: #\nrefused 3: #\nrefused 4: #\nrefused 5: #\n",
@@ -51,7 +63,7 @@ fn report(state: &[u64; 40]) {
 }
 
 fn main() {
-    let mut state = [0u64; 40];
+    let mut state = [0u64; 48];
     state[0] = 88172645463325252;
     fixed::try_all(&mut state);
     try_frames(&mut state);

@@ -1,5 +1,7 @@
-// Sessions fed in random pieces, with readings and size calls between, against the flood fill of the lines fed. After every call the
-// words must be, but for parents, those laid out by document 01's rules; after a refusal words, record and output are as they were.
+// Sessions fed in random pieces, with readings and size calls between, and sessions fed line by line with a size call after each, against
+// the flood fill of the lines fed. After every call the words must be, but for parents and for the sizes of runs that are no roots, those
+// laid out by the documents' rules, each root's size the count of its group's cells; after a refusal words, record and output are as they
+// were.
 use flood::Extent;
 use flood::layout;
 use flood::less;
@@ -13,12 +15,18 @@ use trial::answers;
 use trial::answers::Answer;
 use trial::answers::Done;
 
+// The kind of a size call, beside the kinds of numbers.
+pub const SIZES: usize = 3;
+
+// By this samples::near is exact.
+const EXACT: u64 = 2;
+
 // What a call gave: its code, 0 to 3 feeds and 4 to 7 readings and the size call, and whether all but the words was as it should be.
-struct Turn {
-    session: Session,
-    code: usize,
-    number: usize,
-    agreed: bool,
+pub struct Turn {
+    pub session: Session,
+    pub code: usize,
+    pub number: usize,
+    pub agreed: bool,
 }
 
 // ---- feeds
@@ -30,21 +38,20 @@ fn feed_cause(k: usize, left: usize, cells: usize, width: usize) -> usize {
     if cells != times(k, width) { 8 } else { 0 }
 }
 
-// What an accepted feed should leave: lays it out, but for the parents, which it takes over from the words.
-fn check_accepted(
+// Whether an accepted feed left what it should, given the right numbers of the runs and the right sizes: `laid` has the new runs, and takes
+// over from the words what is free.
+pub fn check_accepted(
     session: Session,
     done: Done,
     fed: usize,
-    words: &[u32; 3201],
-    laid: &mut [u32; 3201],
+    count: flood::Count,
+    marks: &[u32; 1920],
+    sizes: &[u32; 640],
+    words: &[u32; 3841],
+    laid: &mut [u32; 3841],
     e: Extent,
-    structure: &[u8],
-    flags: &[u8],
 ) -> bool {
-    let mut marks = [0u32; 1920];
-    let count = flood::number_cells(e, structure, flags, times(fed, e.width), &mut marks);
-    layout::lay(laid, e, flags, fed);
-    let joins = layout::take_parents(laid, words, &marks, e, count.runs);
+    let joins = layout::take_groups(laid, words, marks, e, count.runs, sizes);
     let right = answers::accepted(fed, count);
     let answer = done.answer;
     let after = done.session;
@@ -53,40 +60,52 @@ fn check_accepted(
     alike & (joins == figures.joins) & answers::same(answer, right)
 }
 
+// The same by the flood fill. A feed of no lines must leave the free words too.
+fn check_fed(
+    session: Session,
+    done: Done,
+    fed: usize,
+    words: &[u32; 3841],
+    laid: &mut [u32; 3841],
+    e: Extent,
+    structure: &[u8],
+    flags: &[u8],
+) -> bool {
+    let mut marks = [0u32; 1920];
+    let mut sizes = [0u32; 640];
+    let cells = times(fed, e.width);
+    let stands = (fed != session.fed) | layout::words_alike(words, laid);
+    let count = flood::number_cells(e, structure, flags, cells, &mut marks);
+    flood::count_cells(&marks, cells, &mut sizes);
+    layout::lay(laid, e, flags, fed);
+    stands & check_accepted(session, done, fed, count, &marks, &sizes, words, laid, e)
+}
+
 fn check_refused(session: Session, done: Done, cause: usize) -> bool {
     let answer = done.answer;
     let after = done.session;
     answers::same_record(after, session) & answers::same(answer, answers::refused(cause))
 }
 
-// A feed of some of the lines left, now and then of more than are left, or with cells too many or too few.
-fn feed_some(
+// A feed of k lines, with so many cells.
+fn feed_lines(
     session: Session,
     e: Extent,
     structure: &[u8],
     flags: &[u8],
-    words: &mut [u32; 3201],
-    laid: &mut [u32; 3201],
-    x: u64,
+    words: &mut [u32; 3841],
+    laid: &mut [u32; 3841],
+    k: usize,
+    count: usize,
+    code: usize,
 ) -> Turn {
-    let code = (x % 4) as usize;
     let left = less(e.lines, session.fed);
-    let k = below(next(x), plus(left, 2));
-    let count = samples::near(times(k, e.width), x / 4);
     let cells = samples::part_of(flags, times(session.fed, e.width), count);
     let cause = feed_cause(k, left, cells.len(), e.width);
     let done = trial::feed(session, words, k, cells, code);
+    let fed = plus(session.fed, k);
     let agreed = if cause == 0 {
-        check_accepted(
-            session,
-            done,
-            plus(session.fed, k),
-            words,
-            laid,
-            e,
-            structure,
-            flags,
-        )
+        check_fed(session, done, fed, words, laid, e, structure, flags)
     } else {
         check_refused(session, done, cause)
     };
@@ -98,6 +117,23 @@ fn feed_some(
         number,
         agreed,
     }
+}
+
+// A feed of some of the lines left, now and then of more than are left, or with cells too many or too few.
+fn feed_some(
+    session: Session,
+    e: Extent,
+    structure: &[u8],
+    flags: &[u8],
+    words: &mut [u32; 3841],
+    laid: &mut [u32; 3841],
+    x: u64,
+) -> Turn {
+    let code = (x % 4) as usize;
+    let left = less(e.lines, session.fed);
+    let k = below(next(x), plus(left, 2));
+    let count = samples::near(times(k, e.width), x / 4);
+    feed_lines(session, e, structure, flags, words, laid, k, count, code)
 }
 
 // ---- readings and size calls
@@ -114,13 +150,11 @@ fn output_fits(
     kind: usize,
     got: &[u32; 640],
     marks: &[u32; 1920],
-    fed: usize,
+    sizes: &[u32; 640],
     written: usize,
 ) -> bool {
-    let mut sizes = [0u32; 640];
-    if kind == 3 {
-        flood::count_cells(marks, fed, &mut sizes);
-        return layout::places_alike(got, &sizes, written);
+    if kind == SIZES {
+        return layout::places_alike(got, sizes, written);
     }
     layout::places_alike(got, marks, written)
 }
@@ -133,30 +167,24 @@ fn read_answer(cause: usize, count: flood::Count) -> Answer {
     answers::accepted(count.n, count)
 }
 
-// A reading or a size call. Lays out the names that it gives.
-fn check_read(
+// A reading or a size call, given the right numbers and the right sizes. Lays out the names that it gives.
+pub fn check_read(
     session: Session,
     kind: usize,
     places: usize,
     e: Extent,
     count: flood::Count,
     marks: &[u32; 1920],
-    words: &mut [u32; 3201],
-    laid: &mut [u32; 3201],
-    exact: usize,
+    sizes: &[u32; 640],
+    words: &mut [u32; 3841],
+    laid: &mut [u32; 3841],
 ) -> Turn {
     let mut got = [171u32; 640];
     let done = trial::read(session, words, places, &mut got, kind);
-    let cause = read_cause(places, exact, count.n, kind);
+    let cause = read_cause(places, exact_places(kind, e, count.n), count.n, kind);
     let accepted = (cause == 0) as usize;
     layout::lay_names(laid, e, marks, times(count.runs, accepted));
-    let fits = output_fits(
-        kind,
-        &got,
-        marks,
-        times(session.fed, e.width),
-        times(places, accepted),
-    );
+    let fits = output_fits(kind, &got, marks, sizes, times(places, accepted));
     let answer = done.answer;
     let after = done.session;
     let said = answers::same(answer, read_answer(cause, count));
@@ -169,29 +197,31 @@ fn check_read(
 }
 
 pub fn exact_places(kind: usize, e: Extent, n: usize) -> usize {
-    if kind == 3 {
+    if kind == SIZES {
         n
     } else {
         times(e.lines, e.width)
     }
 }
 
-// Now and then with one place too many or too few.
-fn read_some(
+// One of a kind, by the flood fill; x says whether with one place too many or too few.
+fn read_kind(
     session: Session,
     e: Extent,
     structure: &[u8],
     flags: &[u8],
-    words: &mut [u32; 3201],
-    laid: &mut [u32; 3201],
+    words: &mut [u32; 3841],
+    laid: &mut [u32; 3841],
+    kind: usize,
     x: u64,
 ) -> Turn {
     let mut marks = [0u32; 1920];
-    let count = flood::number_cells(e, structure, flags, times(session.fed, e.width), &mut marks);
-    let kind = (x % 4) as usize;
-    let exact = exact_places(kind, e, count.n);
-    let places = samples::near(exact, next(x));
-    check_read(session, kind, places, e, count, &marks, words, laid, exact)
+    let mut sizes = [0u32; 640];
+    let cells = times(session.fed, e.width);
+    let count = flood::number_cells(e, structure, flags, cells, &mut marks);
+    flood::count_cells(&marks, cells, &mut sizes);
+    let places = samples::near(exact_places(kind, e, count.n), x);
+    check_read(session, kind, places, e, count, &marks, &sizes, words, laid)
 }
 
 // ---- a session
@@ -201,14 +231,23 @@ fn call_some(
     e: Extent,
     structure: &[u8],
     flags: &[u8],
-    words: &mut [u32; 3201],
-    laid: &mut [u32; 3201],
+    words: &mut [u32; 3841],
+    laid: &mut [u32; 3841],
     x: u64,
 ) -> Turn {
     if x / 1024 % 5 < 3 {
         return feed_some(session, e, structure, flags, words, laid, x);
     }
-    read_some(session, e, structure, flags, words, laid, x)
+    read_kind(
+        session,
+        e,
+        structure,
+        flags,
+        words,
+        laid,
+        (x % 4) as usize,
+        next(x),
+    )
 }
 
 fn count_call(
@@ -216,9 +255,9 @@ fn count_call(
     e: Extent,
     structure: &[u8],
     flags: &[u8],
-    words: &mut [u32; 3201],
-    laid: &mut [u32; 3201],
-    state: &mut [u64; 40],
+    words: &mut [u32; 3841],
+    laid: &mut [u32; 3841],
+    state: &mut [u64; 48],
 ) -> Session {
     let turn = call_some(
         session,
@@ -240,9 +279,9 @@ fn calls(
     e: Extent,
     structure: &[u8],
     flags: &[u8],
-    words: &mut [u32; 3201],
-    laid: &mut [u32; 3201],
-    state: &mut [u64; 40],
+    words: &mut [u32; 3841],
+    laid: &mut [u32; 3841],
+    state: &mut [u64; 48],
 ) {
     let mut session = opened;
     for i in 0..12usize {
@@ -251,9 +290,9 @@ fn calls(
 }
 
 // Opens with exactly the words needed, and makes a dozen calls.
-pub fn try_calls(shape: &[usize], structure: &[u8], flags: &[u8], state: &mut [u64; 40]) {
-    let mut words = [7u32; 3201];
-    let mut laid = [7u32; 3201];
+pub fn try_calls(shape: &[usize], structure: &[u8], flags: &[u8], state: &mut [u64; 48]) {
+    let mut words = [7u32; 3841];
+    let mut laid = [7u32; 3841];
     let e = flood::extent_of(shape, structure);
     laid[0] = 0;
     let lent = samples::lend_u32(&mut words, layout::words_needed(e));
@@ -269,4 +308,52 @@ pub fn try_calls(shape: &[usize], structure: &[u8], flags: &[u8], state: &mut [u
         &mut laid,
         state,
     );
+}
+
+// ---- a session fed line by line, with a size call after each line
+
+// The next line, and the sizes then.
+fn size_line(
+    session: Session,
+    e: Extent,
+    structure: &[u8],
+    flags: &[u8],
+    words: &mut [u32; 3841],
+    laid: &mut [u32; 3841],
+    state: &mut [u64; 48],
+) -> Session {
+    let code = below(tally::random(state), 4);
+    let feed = feed_lines(session, e, structure, flags, words, laid, 1, e.width, code);
+    let fed = feed.agreed & layout::words_alike(words, laid);
+    tally::count(state, tally::OTHER, feed.number, fed);
+    let turn = read_kind(feed.session, e, structure, flags, words, laid, SIZES, EXACT);
+    let agreed = turn.agreed & layout::words_alike(words, laid);
+    tally::count(state, tally::SIZED_LINES, turn.number, agreed);
+    turn.session
+}
+
+fn size_lines(
+    opened: Session,
+    e: Extent,
+    structure: &[u8],
+    flags: &[u8],
+    words: &mut [u32; 3841],
+    laid: &mut [u32; 3841],
+    state: &mut [u64; 48],
+) {
+    let mut session = opened;
+    for line in 0..less(e.lines, opened.fed) {
+        session = size_line(session, e, structure, flags, words, laid, state);
+    }
+}
+
+// A whole frame, in words that hold anything.
+pub fn try_lines(shape: &[usize], structure: &[u8], flags: &[u8], state: &mut [u64; 48]) {
+    let mut words = [7u32; 3841];
+    let mut laid = [7u32; 3841];
+    let e = flood::extent_of(shape, structure);
+    laid[0] = 0;
+    let done = trial::open(shape, structure, &mut words);
+    let session = done.session;
+    size_lines(session, e, structure, flags, &mut words, &mut laid, state);
 }

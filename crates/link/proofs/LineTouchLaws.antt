@@ -109,7 +109,7 @@ module _ (g : Geo) (structure ws : List ℕ) (ℓ : ℕ) (R : LineReady g struct
 
     -- how many joins there can be
     pub joins-most : t ≤ runsTo ws ℓ
-    joins-most = united-few (part-ready L ws ℓ (R .lines)) (upto-ends k) (E .runs)
+    joins-most = united-few (part-ready L ws ℓ (R .lines) .parents) (upto-ends k) (E .runs)
 
   -- ---- all of them: only the codes below the middle are backward
 

@@ -9,10 +9,11 @@ use lib.ListN.{length, getD, take, drop}
 use Rattle.groups.specs.Groups.{Edge}
 use Rattle.frame.specs.Shape.{size, coords}
 use Rattle.frame.specs.Memory.{stride}
-use Rattle.frame.specs.Words.{lineStart, parentOf, storedRun}
+use Rattle.frame.specs.Words.{lineStart, parentOf, sizeWord, storedRun}
 use Rattle.frame.specs.Touches.{hasNbr, nbrLine, touchesBy, touchesOf}
 use Rattle.geo.specs.declared.Geo.{Geo}
 use Rattle.geo.specs.Geometry.{leadingOf, ThreeDims}
+use Rattle.forest.specs.Forest.{rootSizes}
 use Rattle.forest.specs.Unions.{United}
 use Rattle.sweep.specs.declared.Nbr.{Nbr}
 use Rattle.link.specs.declared.NbrLine.{NbrLine}
@@ -43,12 +44,14 @@ nbrOf ds ts ℓ = cond (hasNbr ds ts ℓ) (At (nbrLine ds ts ℓ)) Nothing
 abbrev pub runsTo : List ℕ → ℕ → ℕ
 runsTo ws ℓ = lineStart ws (suc ℓ)
 
--- L lines, and the runs of those up to ℓ: their words are there, each line's runs are in order, and no parent is above its run
+-- L lines, and the runs of those up to ℓ: their words are there, each line's runs are in order, no parent is above its run, and a word
+-- holds the sum of the roots' sizes
 pub record LinesReady (L : ℕ) (ws : List ℕ) (ℓ : ℕ) : Type 0 where
   pub within : ℓ < L
   pub room : L + 1 + stride * runsTo ws ℓ ≤ length ws
   pub sorted : (m : ℕ) → m ≤ ℓ → InOrder (storedRun L ws) (lineStart ws m) (lineStart ws (suc m))
   pub parents : (r : ℕ) → r < runsTo ws ℓ → parentOf L ws r ≤ r
+  pub small : rootSizes (parentOf L ws) (sizeWord L ws) (runsTo ws ℓ) < 4294967296
 
 -- what the union of line ℓ asks besides: the leading dimensions, and a structure of one dimension more
 pub record LineReady (g : Geo) (structure ws : List ℕ) (ℓ : ℕ) : Type 0 where
@@ -57,7 +60,7 @@ pub record LineReady (g : Geo) (structure ws : List ℕ) (ℓ : ℕ) : Type 0 wh
   pub lines : LinesReady (g .lines) ws ℓ
 
 -- from ws to ws′ the edges of es were added, one after the other, to the grouping that the first n parents hold, and t of those
--- unions were joins. The line starts stand, and of the runs' words only parents changed
+-- unions were joins. The line starts stand, and of the runs' words only group words changed
 pub record UnitedIn (L : ℕ) (ws ws′ : List ℕ) (n : ℕ) (es : List Edge) (t : ℕ) : Type 0 where
   pub starts : take (L + 1) ws′ ≡ take (L + 1) ws
   pub runs : United (drop (L + 1) ws) (drop (L + 1) ws′) n es t

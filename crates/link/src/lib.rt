@@ -4,7 +4,7 @@
 //     nbr_line      a line's neighbour by coordinates, for an offset that `offsets::delta` gives
 //
 // Promised (specs/Lines.antt): the roots afterwards are those of the grouping held before with the line's touches added, the count is
-// that of the unions whose roots differed, and every word but parents stands.
+// that of the unions whose roots differed, and every word but group words (parents and sizes) stands.
 ghost use mathlib.Core.Path.{_≡_};
 ghost use mathlib.Core.List.{map};
 ghost use Prim.Native.Nat.{ℕ, _/_, _^_, _<_};

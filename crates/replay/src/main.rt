@@ -168,7 +168,7 @@ fn is_formed(
 }
 
 // Counts an answer by its rank, and `none`.
-fn count_answer(state: &mut [u64; 40], rank: usize, n: usize, outcome: usize) {
+fn count_answer(state: &mut [u64; 48], rank: usize, n: usize, outcome: usize) {
     if outcome == MALFORMED {
         return;
     }
@@ -201,14 +201,14 @@ fn try_fields(
     try_frame(values, rank, fields, kinds, bytes, s, words)
 }
 
-fn set(state: &mut [u64; 40], i: usize, x: u64) {
-    if i < 40 {
+fn set(state: &mut [u64; 48], i: usize, x: u64) {
+    if i < 48 {
         state[i] = x;
     }
 }
 
 // Counts an outcome, and notes its first line unless it agreed.
-fn tell(state: &mut [u64; 40], outcome: usize) {
+fn tell(state: &mut [u64; 48], outcome: usize) {
     let first = plus(outcome, FIRST);
     let line = at(state, LINE);
     add(state, outcome);
@@ -217,7 +217,7 @@ fn tell(state: &mut [u64; 40], outcome: usize) {
     }
 }
 
-fn try_line(line: &[u8], words: &mut [u32; 8192], state: &mut [u64; 40]) {
+fn try_line(line: &[u8], words: &mut [u32; 8192], state: &mut [u64; 48]) {
     let mut values = [fields::EMPTY; 3200];
     add(state, LINE);
     let fields = fields::split(line, &mut values);
@@ -228,7 +228,7 @@ fn try_line(line: &[u8], words: &mut [u32; 8192], state: &mut [u64; 40]) {
 }
 
 // One byte more of the input: `line` has those of its line so far. What is past 1,600 is not kept: the line is too long as it is.
-fn push(line: &mut [u8; 1600], c: u8, words: &mut [u32; 8192], state: &mut [u64; 40]) {
+fn push(line: &mut [u8; 1600], c: u8, words: &mut [u32; 8192], state: &mut [u64; 48]) {
     let n = state[LENGTH] as usize;
     if n < 1600 {
         line[n] = c;
@@ -245,14 +245,14 @@ fn line_of(s: &[u8; 1600], n: usize) -> &[u8] {
     samples::first(t, n)
 }
 
-fn push_all(text: &[u8], line: &mut [u8; 1600], words: &mut [u32; 8192], state: &mut [u64; 40]) {
+fn push_all(text: &[u8], line: &mut [u8; 1600], words: &mut [u32; 8192], state: &mut [u64; 48]) {
     for i in 0..text.len() {
         push(line, flood::byte(text, i), words, state);
     }
 }
 
 // Reads on, and answers whether there may be more.
-fn read_some(line: &mut [u8; 1600], words: &mut [u32; 8192], state: &mut [u64; 40]) -> bool {
+fn read_some(line: &mut [u8; 1600], words: &mut [u32; 8192], state: &mut [u64; 48]) -> bool {
     let mut text = io::large_buffer();
     let n = io::read_full(0, &mut text);
     push_all(&text[..n], line, words, state);
@@ -260,7 +260,7 @@ fn read_some(line: &mut [u8; 1600], words: &mut [u32; 8192], state: &mut [u64; 4
 }
 
 // Reads the input to its end. A proved loop has to end: so it counts its turns down, from a number that no run uses up.
-fn read_all(line: &mut [u8; 1600], words: &mut [u32; 8192], state: &mut [u64; 40]) {
+fn read_all(line: &mut [u8; 1600], words: &mut [u32; 8192], state: &mut [u64; 48]) {
     let mut turns = u64::MAX;
     while turns > 0 && read_some(line, words, state) {
         turns -= 1;
@@ -271,7 +271,7 @@ fn read_all(line: &mut [u8; 1600], words: &mut [u32; 8192], state: &mut [u64; 40
 fn main() {
     let mut line = [0u8; 1600];
     let mut words = [7u32; 8192];
-    let mut state = [0u64; 40];
+    let mut state = [0u64; 48];
     read_all(&mut line, &mut words, &mut state);
     try_rest(&mut state);
     tally::report(
@@ -282,7 +282,7 @@ fn main() {
 }
 
 // What stands after the last byte 10 does not have the form.
-fn try_rest(state: &mut [u64; 40]) {
+fn try_rest(state: &mut [u64; 48]) {
     if state[LENGTH] != 0 {
         add(state, LINE);
         tell(state, MALFORMED);

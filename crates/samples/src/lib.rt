@@ -1,8 +1,10 @@
-// Random frames of rank 1 to 4 and of at most 640 cells, and their cells in each kind. A random number is made of the one before, and all
-// that a function makes is made of the one number that it is given.
+// Random frames of rank 1 to 4 and of at most 640 cells, their cells in each kind, and sizes of other origin. A random number is made of
+// the one before, and all that a function makes is made of the one number that it is given.
 pub mod tally;
 
+use flood::Extent;
 use flood::byte;
+use flood::layout;
 use flood::less;
 use flood::plus;
 use flood::put_byte;
@@ -330,7 +332,7 @@ fn width_of(shape: Shape) -> usize {
 }
 
 // A random frame, counted by its rank and its width. Its structure is the first 3^rank bytes.
-pub fn random_frame(state: &mut [u64; 40], structure: &mut [u8], flags: &mut [u8]) -> Shape {
+pub fn random_frame(state: &mut [u64; 48], structure: &mut [u8], flags: &mut [u8]) -> Shape {
     let x = tally::random(state);
     let rank = plus(below(x, 4), 1);
     let shape = Shape {
@@ -342,4 +344,52 @@ pub fn random_frame(state: &mut [u64; 40], structure: &mut [u8], flags: &mut [u8
     tally::add(state, plus(rank, 15));
     tally::add(state, width_entry(width_of(shape)));
     shape
+}
+
+// ---- sizes of other origin
+
+// A root gets some of the rest of a total, and any other run any word. What is left of the total then.
+fn deal_size(words: &mut [u32; 3841], e: Extent, run: usize, rest: usize, x: u64) -> usize {
+    let at = layout::run_word(e, run, layout::SIZE);
+    if layout::is_root(words, e, run) {
+        let some = below(x, plus(rest, 1));
+        flood::put(words, at, flood::word(some));
+        return less(rest, some);
+    }
+    flood::put(words, at, flood::word(below(x, 4294967296)));
+    rest
+}
+
+// Deals the total of the runs' lengths out among the roots, otherwise than by their groups. Run 0, which is always a root, gets what is
+// left.
+pub fn deal_sizes(words: &mut [u32; 3841], e: Extent, runs: usize, total: usize, x: u64) {
+    let mut rest = total;
+    let mut y = x;
+    for run in 0..runs {
+        y = next(y);
+        rest = deal_size(words, e, run, rest, y);
+    }
+    let at = layout::run_word(e, 0, layout::SIZE);
+    let size = plus(flood::get(words, at) as usize, rest);
+    flood::put(words, at, flood::word(size));
+}
+
+// A run that is no root gets any word for its size.
+fn spoil_size(words: &mut [u32], e: Extent, run: usize, x: u64) {
+    let at = layout::run_word(e, run, layout::SIZE);
+    let size = if layout::is_root(words, e, run) {
+        flood::get(words, at)
+    } else {
+        flood::word(below(x, 4294967296))
+    };
+    flood::put(words, at, size);
+}
+
+// Gives each run that is no root any word for its size, which is free there.
+pub fn spoil_sizes(words: &mut [u32], e: Extent, runs: usize, x: u64) {
+    let mut y = x;
+    for run in 0..runs {
+        y = next(y);
+        spoil_size(words, e, run, y);
+    }
 }

@@ -28,25 +28,32 @@ pub const REFUSED_12: usize = 36;
 // Counted here is what is not printed.
 pub const OTHER: usize = 39;
 
-pub fn at(state: &[u64; 40], i: usize) -> u64 {
-    if i < 40 { state[i] } else { 0 }
+// Lines fed one by one, with a size call after each; and records of other origin, of which some hold a link that no touch makes.
+pub const SIZED_LINES: usize = 40;
+
+pub const ORIGINS: usize = 41;
+
+pub const LINKED: usize = 42;
+
+pub fn at(state: &[u64; 48], i: usize) -> u64 {
+    if i < 48 { state[i] } else { 0 }
 }
 
-pub fn add(state: &mut [u64; 40], i: usize) {
-    if i < 40 {
+pub fn add(state: &mut [u64; 48], i: usize) {
+    if i < 48 {
         state[i] = std::num::wrapping_add_u64(state[i], 1);
     }
 }
 
 // Counts a call by its entry and by its refusal's number, and whether all was as it should be.
-pub fn count(state: &mut [u64; 40], entry: usize, number: usize, agreed: bool) {
+pub fn count(state: &mut [u64; 48], entry: usize, number: usize, agreed: bool) {
     add(state, entry);
     add(state, flood::plus(REFUSED, number));
     add(state, flood::plus(DIFFERED, agreed as usize));
 }
 
 // A new random number.
-pub fn random(state: &mut [u64; 40]) -> u64 {
+pub fn random(state: &mut [u64; 48]) -> u64 {
     let a = state[0];
     let b = a ^ (a << 13);
     let c = b ^ (b >> 7);
@@ -58,7 +65,7 @@ pub fn random(state: &mut [u64; 40]) -> u64 {
 // ---- the report
 
 // What a frame is counted as, from RANKS on.
-pub fn report_frames(state: &[u64; 40]) {
+pub fn report_frames(state: &[u64; 48]) {
     report(
         state,
         b"frames of rank 1: #\nframes of rank 2: #\nframes of rank 3: #\nframes of rank 4: #\n",
@@ -72,7 +79,7 @@ pub fn report_frames(state: &[u64; 40]) {
 }
 
 // Prints a character; for # entry i. The entry of the next #.
-fn print(state: &[u64; 40], c: u8, i: usize) -> usize {
+fn print(state: &[u64; 48], c: u8, i: usize) -> usize {
     if c == b'#' {
         io::print_decimal(1, at(state, i));
         return flood::plus(i, 1);
@@ -82,7 +89,7 @@ fn print(state: &[u64; 40], c: u8, i: usize) -> usize {
 }
 
 // Prints a text, with the entries from this one on in place of its #.
-pub fn report(state: &[u64; 40], text: &[u8], from: usize) {
+pub fn report(state: &[u64; 48], text: &[u8], from: usize) {
     let mut entry = from;
     for i in 0..text.len() {
         entry = print(state, flood::byte(text, i), entry);

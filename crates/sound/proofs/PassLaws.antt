@@ -26,14 +26,15 @@ use Rattle.sound.proofs.LineLaws.{Ordered, within, line-few, line-lengt
 use Rattle.sound.proofs.LineLaws.{lengths-single, single-lengths}
 use Rattle.sound.proofs.StoredLaws.{words-right, right-words}
 
--- five tests joined by `and`
-and₅ : (a b c d e : Bool) → ((((a && b) && c) && d) && e) ≡ true
-    → (a ≡ true) × (b ≡ true) × (c ≡ true) × (d ≡ true) × (e ≡ true)
-and₅ true true true true e h = (refl, refl, refl, refl, h)
-and₅ true true true false e h = absurd (true≢false (sym h))
-and₅ true true false d e h = absurd (true≢false (sym h))
-and₅ true false c d e h = absurd (true≢false (sym h))
-and₅ false b c d e h = absurd (true≢false (sym h))
+-- six tests joined by `and`
+and₆ : (a b c d e f : Bool) → (((((a && b) && c) && d) && e) && f) ≡ true
+    → (a ≡ true) × (b ≡ true) × (c ≡ true) × (d ≡ true) × (e ≡ true) × (f ≡ true)
+and₆ true true true true true f h = (refl, refl, refl, refl, refl, h)
+and₆ true true true true false f h = absurd (true≢false (sym h))
+and₆ true true true false e f h = absurd (true≢false (sym h))
+and₆ true true false d e f h = absurd (true≢false (sym h))
+and₆ true false c d e f h = absurd (true≢false (sym h))
+and₆ false b c d e f h = absurd (true≢false (sym h))
 
 module _ (L w : ℕ) (left : Bool) (fed : ℕ) (figures : Figures) (ws : List ℕ) where
   abbrev runs : ℕ
@@ -155,8 +156,9 @@ module _ (L w : ℕ) (left : Bool) (fed : ℕ) (figures : Figures) (ws : List �
             counts : count falling (first fed) ≤ count (firstFalls falling first) fed
             counts = omega (arith, ap (count falling) (S .last), G .fallen nonempty, F .counted h)
 
-        found-words : runs - found .roots ≡ figures .joins → found .cells ≡ figures .cells → (left ≡ false → found .cells ≡ runs) → Words
-        found-words joins cells one = record {
+        found-words : runs - found .roots ≡ figures .joins → found .cells ≡ figures .cells → found .sizes ≡ figures .cells
+            → (left ≡ false → found .cells ≡ runs) → Words
+        found-words joins cells sizes one = record {
           first = begins;
           rising = S .rising;
           last = S .last;
@@ -169,22 +171,23 @@ module _ (L w : ℕ) (left : Bool) (fed : ℕ) (figures : Figures) (ws : List �
           parents = λ r l. ltb-false r (parent r) (right r l .1);
           join-count = omega (arith, G .rooted, roots-others parent runs);
           total = sym cells ∙ exact nonempty in-order;
+          sizes = sym (G .sized) ∙ sizes;
         }
 
       -- hence the answer
       abbrev same-all : Bool
-      same-all = (((eqb (found .wrong) 0 && eqb (found .falls) (lines .falls)) && eqb (runs - found .roots) (figures .joins))
-          && eqb (found .cells) (figures .cells)) && (left || eqb (found .cells) runs)
+      same-all = ((((eqb (found .wrong) 0 && eqb (found .falls) (lines .falls)) && eqb (runs - found .roots) (figures .joins))
+          && eqb (found .cells) (figures .cells)) && eqb (found .sizes) (figures .cells)) && (left || eqb (found .cells) runs)
 
       pub answer : same-all ≡ test
       answer = bool-same same-all test to from
         where
           to : same-all ≡ true → test ≡ true
           to t =
-              let p = and₅ (eqb (found .wrong) 0) (eqb (found .falls) (lines .falls)) (eqb (runs - found .roots) (figures .joins))
-              (eqb (found .cells) (figures .cells)) (left || eqb (found .cells) runs) t in
+              let p = and₆ (eqb (found .wrong) 0) (eqb (found .falls) (lines .falls)) (eqb (runs - found .roots) (figures .joins))
+              (eqb (found .cells) (figures .cells)) (eqb (found .sizes) (figures .cells)) (left || eqb (found .cells) runs) t in
               right-words L w left fed figures ws (found-words (eqb-true _ _ (p .0)) (eqb-true _ _ (p .1)) (eqb-true _ _ (p .2))
-              (eqb-true _ _ (p .3)) (λ e. eqb-true (found .cells) runs (rw e at (p .4))))
+              (eqb-true _ _ (p .3)) (eqb-true _ _ (p .4)) (λ e. eqb-true (found .cells) runs (rw e at (p .5))))
 
           lone : Words → (t : Bool) → left ≡ t → (left || eqb (found .cells) runs) ≡ true
           lone W true e = or-left left (eqb (found .cells) runs) e
@@ -198,4 +201,5 @@ module _ (L w : ℕ) (left : Bool) (fed : ℕ) (figures : Figures) (ws : List �
                 eq-eqb (found .falls) (lines .falls) (same-falls W),
                 eq-eqb (runs - found .roots) (figures .joins) (same-joins W),
                 eq-eqb (found .cells) (figures .cells) (sum W ∙ sym (W .total)),
+                eq-eqb (found .sizes) (figures .cells) (G .sized ∙ W .sizes),
               ) (lone W left refl)

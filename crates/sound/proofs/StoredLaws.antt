@@ -51,6 +51,7 @@ module _ (L w : ℕ) (left : Bool) (fed : ℕ) (figures : Figures) (ws : List �
     parents = λ r l. leb-true _ _ (all-at _ runs r (every-at _ 8 h) l);
     join-count = eqb-true _ _ (every-at _ 9 h);
     total = eqb-true _ _ (every-at _ 10 h);
+    sizes = eqb-true _ _ (every-at _ 11 h);
   }
     where
       near : (ℓ r : ℕ) → lineStart ws ℓ ≤ r → suc r < lineStart ws (suc ℓ) → (beside ℓ r ≡ true) ⊎ (apart r ≡ true)
@@ -81,7 +82,8 @@ module _ (L w : ℕ) (left : Bool) (fed : ℕ) (figures : Figures) (ws : List �
       (every-more _ _ (at-all _ runs (λ r l. le-leb _ _ (S .parents r l)))
       (every-more _ _ (eq-eqb _ _ (S .join-count))
       (every-more _ _ (eq-eqb _ _ (S .total))
-      every-none))))))))))
+      (every-more _ _ (eq-eqb _ _ (S .sizes))
+      every-none)))))))))))
     where
       near : (ℓ r : ℕ) → (lineStart ws ℓ ≤ r → suc r < lineStart ws (suc ℓ) → end r + gapOf left ≤ start (suc r)) → (a : Bool)
           → leb (lineStart ws ℓ) r ≡ a → (b : Bool) → ltb (suc r) (lineStart ws (suc ℓ)) ≡ b → (beside ℓ r || apart r) ≡ true

@@ -9,8 +9,8 @@ use lib.ListN.{length}
 use Rattle.groups.specs.Groups.{count}
 use Rattle.frame.specs.Runs.{Run, gapOf, runLengths}
 use Rattle.frame.specs.Memory.{stride}
-use Rattle.frame.specs.Words.{lineStart, runStart, runEnd, parentOf, storedRun}
-use Rattle.forest.specs.Forest.{roots}
+use Rattle.frame.specs.Words.{lineStart, runStart, runEnd, parentOf, sizeWord, storedRun}
+use Rattle.forest.specs.Forest.{roots, rootSizes}
 use Rattle.sound.specs.declared.Lines.{Lines}
 use Rattle.sound.specs.declared.Runs.{Runs}
 
@@ -64,9 +64,21 @@ module _ (L : ℕ) (ws : List ℕ) where
   abbrev pub Nonempty : ℕ → Type 0
   Nonempty n = (r : ℕ) → r < n → start r < end r
 
-  -- how many runs are wrong, how many are roots; and, where none is empty, how many fall, and their cells
+  -- of the first runs: how many are wrong, how many are roots, and the sum of the roots' sizes; and, where none is empty, how many fall,
+  -- their cells, and that the next run falls exactly where it starts at `last` or before
   pub record RunsFound (left : Bool) (runs : ℕ) (found : Runs) : Type 0 where
     pub wrong : found .wrong ≡ count wrongRun runs
     pub rooted : found .roots ≡ roots parent runs
+    pub sized : found .sizes ≡ rootSizes parent (sizeWord L ws) runs
+    pub few : found .falls ≤ runs
     pub fallen : Nonempty runs → found .falls ≡ count (falls left (storedRun L ws)) runs
     pub summed : Nonempty runs → found .cells ≡ runLengths (storedRun L ws) runs % 2 ^ 32
+    pub next : Nonempty runs → leb (start runs) (found .last) ≡ falls left (storedRun L ws) runs
+
+  -- what the pass over the runs a to before b asks: their words are there, the halves of so many sizes add up to numbers of 32 bits, and
+  -- what was found of the runs before them
+  pub record BlockReady (left : Bool) (a b : ℕ) (found : Runs) : Type 0 where
+    pub ready : RunsReady L b ws
+    pub up : a ≤ b
+    pub short : b ≤ a + 65536
+    pub before : RunsFound left a found

@@ -11,8 +11,8 @@ use Rattle.frame.specs.Lists.{all, every}
 use Rattle.frame.specs.declared.Figures.{Figures}
 use Rattle.frame.specs.Runs.{gapOf, runLengths}
 use Rattle.frame.specs.Memory.{stride, mostRuns}
-use Rattle.frame.specs.Words.{lineStart, runStart, runEnd, parentOf, storedRun}
-use Rattle.forest.specs.Forest.{nonRoots}
+use Rattle.frame.specs.Words.{lineStart, runStart, runEnd, parentOf, sizeWord, storedRun}
+use Rattle.forest.specs.Forest.{nonRoots, rootSizes}
 
 -- L lines of w cells, whether the left byte is nonzero, how many lines are fed, and the figures
 module _ (L w : ℕ) (left : Bool) (fed : ℕ) (figures : Figures) (ws : List ℕ) where
@@ -50,6 +50,8 @@ module _ (L w : ℕ) (left : Bool) (fed : ℕ) (figures : Figures) (ws : List �
     pub join-count : figures .joins ≡ nonRoots parent runs
     -- document 02, F-1: a total that isn't the sum of the run lengths
     pub total : figures .cells ≡ runLengths (storedRun L ws) runs
+    -- document 02, F-3: roots' fifth words that don't add up to that total
+    pub sizes : rootSizes parent (sizeWord L ws) runs ≡ figures .cells
 
   -- computed: that it decides `WordsSound` is proved in proofs/StoredLaws.antt
   unfoldable pub wordsSound : Bool
@@ -66,6 +68,7 @@ module _ (L w : ℕ) (left : Bool) (fed : ℕ) (figures : Figures) (ws : List �
       ∷ all (λ r. leb (parent r) r) runs
       ∷ eqb (figures .joins) (nonRoots parent runs)
       ∷ eqb (figures .cells) (runLengths (storedRun L ws) runs)
+      ∷ eqb (rootSizes parent (sizeWord L ws) runs) (figures .cells)
       ∷ [])
 
 -- what the pass asks: lines fed within the L lines, words for all runs that those can have, and width and cells within the limits

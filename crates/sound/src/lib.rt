@@ -8,7 +8,7 @@
 // is at most the cells of the frame, fewer than 2^32.
 ghost use mathlib.Core.Path.{_≡_};
 ghost use Rattle.sound.specs.Stored.{wordsSound, PassReady};
-ghost use Rattle.sound.specs.Passes.{LinesReady, LinesFound, RunsReady, RunsFound};
+ghost use Rattle.sound.specs.Passes.{LinesReady, LinesFound, RunsReady, RunsFound, BlockReady};
 
 // Whether the words are sound, for a frame of that geometry, `fed` lines of which are fed, with those figures.
 pub fn words_sound(words: &[u32], g: geo::Geo, fed: usize, figures: frame::Figures) -> bool
@@ -35,6 +35,7 @@ pub fn words_sound(words: &[u32], g: geo::Geo, fed: usize, figures: frame::Figur
         & (found.falls as usize == lines.falls)
         & (runs - roots == joins)
         & (cells == total)
+        & (found.sizes == total)
         & (g.left | (cells == runs))
 }
 
@@ -87,45 +88,82 @@ fn lines_pass(words: &[u32], g: geo::Geo, fed: usize, runs: usize) -> Lines
     }
 }
 
-// What the pass over the runs finds: how many have no cell or a parent above them, how many fall, how many are their own parents, and the
-// cells of all, modulo 2^32.
+// What the pass over the runs finds: how many have no cell or a parent above them, how many fall, how many are their own parents, the cells
+// of all, modulo 2^32, the last end, less one where the gap is 0, and the sum of the roots' sizes.
 struct Runs {
     wrong: u32,
     falls: u32,
     roots: u32,
     cells: u32,
+    last: u32,
+    sizes: usize,
 }
 
-// Where no run is empty, `last` is the end before, less one where the gap is 0: a run falls where that is not before its start.
+// How many runs are taken at a time: the halves of so many sizes add up to numbers of 32 bits.
+const BLOCK: usize = 65536;
+
+// All runs, block by block.
 fn runs_pass(words: &[u32], lines: usize, left: bool, runs: usize) -> Runs
     requires { ⌜ RunsReady lines runs (now words) ⌝ }
     ensures { λ r. ⌜ RunsFound lines (now (words .entry)) left runs r ⌝ }
 {
-    let base = lines + 1;
-    let less = (!left) as u32;
-    let mut wrong: u32 = 0;
-    let mut falls: u32 = 0;
-    let mut roots: u32 = 0;
-    let mut cells: u32 = 0;
-    let mut last: u32 = 4294967295;
+    let mut found = Runs {
+        wrong: 0,
+        falls: 0,
+        roots: 0,
+        cells: 0,
+        last: 4294967295,
+        sizes: 0,
+    };
     let mut r: usize = 0;
     while r < runs {
+        let end = if runs - r < BLOCK { runs } else { r + BLOCK };
+        found = block_pass(words, lines, left, r, end, found);
+        r = end;
+    }
+    found
+}
+
+// The runs `a` to before `b`, with what was found before them. Where no run is empty, `last` is the end before, less one where the gap is
+// 0: a run falls where that is not before its start. The halves of a root's size are added apart.
+fn block_pass(words: &[u32], lines: usize, left: bool, a: usize, b: usize, found: Runs) -> Runs
+    requires { ⌜ BlockReady lines (now words) left a b found ⌝ }
+    ensures { λ r. ⌜ RunsFound lines (now (words .entry)) left b r ⌝ }
+{
+    let base = lines + 1;
+    let less = (!left) as u32;
+    let mut wrong = found.wrong;
+    let mut falls = found.falls;
+    let mut roots = found.roots;
+    let mut cells = found.cells;
+    let mut last = found.last;
+    let mut low: u32 = 0;
+    let mut high: u32 = 0;
+    let mut r = a;
+    while r < b {
         let at = frame::STRIDE * r;
         let s = words[base + at];
         let e = words[base + (at + frame::END)];
         let p = words[base + (at + frame::PARENT)];
-        let own = r as u32;
-        wrong += ((e <= s) | (p > own)) as u32;
+        let run = r as u32;
+        let own = (p == run) as u32;
+        let size = words[base + (at + frame::SIZE)] * own;
+        wrong += ((e <= s) | (p > run)) as u32;
         falls += (last >= s) as u32;
-        roots += (p == own) as u32;
+        roots += own;
+        low += size % 65536;
+        high += size / 65536;
         cells = std::num::wrapping_add_u32(cells, std::num::wrapping_sub_u32(e, s));
         last = std::num::wrapping_sub_u32(e, less);
         r += 1;
     }
+    let sizes = found.sizes + low as usize + 65536 * high as usize;
     Runs {
         wrong,
         falls,
         roots,
         cells,
+        last,
+        sizes,
     }
 }

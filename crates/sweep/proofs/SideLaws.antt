@@ -130,10 +130,10 @@ module _ {p : List ℕ} {at : LinePair} (L : TwoLines p at) where
       (omega (arith, L .neighbour .upto, L .before))
 
   pub link-few : {q : List ℕ} {t : ℕ} (by : Nbr) → United p q (at .cb) (edges by) t → t ≤ at .cb
-  link-few by U = united-few (L .parents) (edges-ends by) U
+  link-few by U = united-few (L .sized .parents) (edges-ends by) U
 
   pub link-idle : (by : Nbr) → (eqb (at .ca) (at .cb) || eqb (at .na) (at .nb)) ≡ true → United p p (at .cb) (edges by) 0
-  link-idle by e = rw (link-none (runIn p) at by e) (united-none p (at .cb) (L .parents))
+  link-idle by e = rw (link-none (runIn p) at by e) (united-none p (at .cb) (L .sized .parents))
 
   pub link-widened : {q : List ℕ} {lo hi t : ℕ} (by : Nbr) → by .adj ≡ true → lo ≡ wide (by .next) → hi ≡ wide (by .prev)
       → United p q (at .cb) (sweepPairs lo hi (runIn p) at) t → United p q (at .cb) (edges by) t
@@ -148,7 +148,7 @@ module _ {p : List ℕ} {at : LinePair} (L : TwoLines p at) where
   side-on b lo hi e U = rw e U
 
   pub side-off : (b : Bool) (lo hi : ℕ) → b ≡ false → Side p b lo hi 0
-  side-off b lo hi e = rw e (united-none p (at .cb) (L .parents))
+  side-off b lo hi e = rw e (united-none p (at .cb) (L .sized .parents))
 
   module _ {m : List ℕ} {s : ℕ} (by : Nbr) (e : by .adj ≡ false) (U : Side m (by .prev) 0 2 s) where
     into : {a b : ℕ} → Groups.Joined (both (by .prev) (by .next)) a b → Groups.Joined (edges (offMiddle (by .prev) (by .next))) a b
@@ -161,7 +161,7 @@ module _ {p : List ℕ} {at : LinePair} (L : TwoLines p at) where
 
     linked-sides : (q : List ℕ) (t : ℕ) → United m q (at .cb) (cond (by .next) (sweepPairs 2 0 (runIn m) at) []) t
         → United p q (at .cb) (edges by) (s + t)
-    linked-sides q t W = rw e (united-same p (at .cb) (L .parents) q (both (by .prev) (by .next)) (s + t) ends whole
+    linked-sides q t W = rw e (united-same p (at .cb) (L .sized .parents) q (both (by .prev) (by .next)) (s + t) ends whole
         (edges (offMiddle (by .prev) (by .next))) (edges-ends (offMiddle (by .prev) (by .next))) (λ a b j. into j) (λ a b j. out j))
       where
         ends : Ends (λ r. r < at .cb) (both (by .prev) (by .next))
@@ -175,7 +175,7 @@ module _ {p : List ℕ} {at : LinePair} (L : TwoLines p at) where
 
         whole : United p q (at .cb) (both (by .prev) (by .next)) (s + t)
         whole =
-            united-then p (at .cb) (L .parents) m (one (by .prev) 0 2) s first U q (one (by .next) 2 0) t
+            united-then p (at .cb) (L .sized .parents) m (one (by .prev) 0 2) s first U q (one (by .next) 2 0) t
             (subst (λ (R : ℕ → Run). United m q (at .cb) (cond (by .next) (sweepPairs 2 0 R at) []) t) (runs-kept (U .kept)) W)
 
     -- then the sweep to the other side, or none
@@ -184,4 +184,5 @@ module _ {p : List ℕ} {at : LinePair} (L : TwoLines p at) where
     linked-both {q} {t} h W = linked-sides q t (rw h W)
 
     pub linked-one : by .next ≡ false → United p m (at .cb) (edges by) s
-    linked-one h = rw add-zero at (linked-sides m 0 (rw h (united-none m (at .cb) (kept-parents p m (at .cb) (L .parents) (U .kept)))))
+    linked-one h = rw add-zero at (linked-sides m 0
+        (rw h (united-none m (at .cb) (kept-parents p m (at .cb) (L .sized .parents) (U .kept)))))

@@ -15,10 +15,10 @@ use Rattle.groups.specs.Groups.{Edge}
 use Rattle.groups.proofs.RepLaws.{Ends}
 use Rattle.frame.specs.Runs.{Run}
 use Rattle.frame.specs.Words.{startAt, endAt}
-use Rattle.forest.specs.Unions.{parentIn, Parents, ParentsOnly, United, Unites}
+use Rattle.forest.specs.Unions.{parentIn, Parents, Sized, GroupWordsOnly, United, Unites}
 use Rattle.forest.proofs.ForestLaws.{roots-others}
-use Rattle.forest.proofs.ParentLaws.{parents-fewer, kept-parents}
-use Rattle.forest.proofs.UnitedLaws.{united-none, united-then, united-groups, joined-united}
+use Rattle.forest.proofs.ParentLaws.{sized-fewer, kept-parents}
+use Rattle.forest.proofs.UnitedLaws.{united-none, united-then, united-groups, united-sized, joined-united}
 use Rattle.sweep.specs.declared.LinePair.{LinePair}
 use Rattle.frame.specs.Structure.{digit}
 use Rattle.sweep.specs.Sweeps.{runIn, InOrder, TwoLines, ToSkip, Skipped, ToRow, rowPairs, RowUnites, sweepPairs}
@@ -27,22 +27,21 @@ use Rattle.sweep.proofs.SweepLaws.{sweep-row, sweep-ends, rises}
 
 -- ---- unions leave starts and ends
 
-module _ {p q : List ℕ} {n : ℕ} (K : ParentsOnly p q n) where
+module _ {p q : List ℕ} {n : ℕ} (K : GroupWordsOnly p q n) where
   start-kept : (r : ℕ) → getD q (startAt r) 0 ≡ getD p (startAt r) 0
-  start-kept r = K .others (startAt r) (λ x h e. omega arith)
+  start-kept r = K .others (startAt r) (λ x h. (omega arith, omega arith))
 
   end-kept : (r : ℕ) → getD q (endAt r) 0 ≡ getD p (endAt r) 0
-  end-kept r = K .others (endAt r) (λ x h e. omega arith)
+  end-kept r = K .others (endAt r) (λ x h. (omega arith, omega arith))
 
   pub runs-kept : runIn q ≡ runIn p
   runs-kept = fun-ext (λ r. ap₂ (λ (s : ℕ) (e : ℕ). record { start = s; end = e }) (start-kept r) (end-kept r))
 
-pub lines-kept : {p q : List ℕ} {at : LinePair} → TwoLines p at → ParentsOnly p q (at .cb) → TwoLines q at
-lines-kept {p} {q} {at} L K = record {
-  parents = kept-parents p q (at .cb) (L .parents) K;
-  current = rw (runs-kept K)
-      (L .current);
-  neighbour = rw (runs-kept K) (L .neighbour);
+pub lines-kept : {p q : List ℕ} {at : LinePair} {es : List Edge} {t : ℕ} → TwoLines p at → United p q (at .cb) es t → TwoLines q at
+lines-kept {p} {q} {at} {es} {t} L U = record {
+  sized = united-sized p q (at .cb) es t (L .sized) U;
+  current = rw (runs-kept (U .kept)) (L .current);
+  neighbour = rw (runs-kept (U .kept)) (L .neighbour);
   before = L .before;
 }
 
@@ -92,16 +91,16 @@ module _ {p : List ℕ} {lo i j nb : ℕ} where
         (united-none p n P);
   }
 
-  module _ {q : List ℕ} {k t : ℕ} (P : Parents p (max (suc i) nb)) (T : RowTo p lo i j nb q k t) where
-    row-kept : ParentsOnly p q (max (suc i) nb)
-    row-kept = T .united (max (suc i) nb) P (omega arith) (omega arith) .kept
+  module _ {q : List ℕ} {k t : ℕ} (Z : Sized p (max (suc i) nb)) (T : RowTo p lo i j nb q k t) where
+    row-united : United p q (max (suc i) nb) (rowPairs lo (runIn p) i j k) t
+    row-united = T .united (max (suc i) nb) (Z .parents) (omega arith) (omega arith)
 
-    pub row-parents : k < nb → Parents q (suc (max i k))
-    row-parents h = parents-fewer q (max (suc i) nb) (suc (max i k)) (kept-parents p q (max (suc i) nb) P row-kept) (omega arith)
+    pub row-sized : k < nb → Sized q (suc (max i k))
+    row-sized h = sized-fewer q (max (suc i) nb) (suc (max i k)) (united-sized p q (max (suc i) nb) _ t Z row-united) (omega arith)
 
     -- the test that the loop makes, of words as they are now
     row-test : (b : Bool) → ltb (runIn q k .start + 1) (runIn p i .end + lo) ≡ b → starts lo (runIn p) i k ≡ b
-    row-test b e = ap (λ (x : ℕ). ltb (x + 1) (runIn p i .end + lo)) (sym (start-kept row-kept k)) ∙ e
+    row-test b e = ap (λ (x : ℕ). ltb (x + 1) (runIn p i .end + lo)) (sym (start-kept (row-united .kept) k)) ∙ e
 
     pub row-turn : {s : List ℕ} {b : Bool} → k < nb → ltb (runIn q k .start + 1) (runIn p i .end + lo) ≡ true → Unites q s i k b
         → RowTo p lo i j nb s (k + 1) (t + boolByte b)
@@ -110,7 +109,7 @@ module _ {p : List ℕ} {lo i j nb : ℕ} where
           low = omega (arith, T .low);
           high = omega arith;
           few = few b;
-          long = J (suc (max i k)) (row-parents h) (omega arith) (omega arith) .kept .long ∙ T .long;
+          long = J (suc (max i k)) (row-sized h .parents) (omega arith) (omega arith) .kept .long ∙ T .long;
           united = λ n Q a c.
               let U = T .united n Q a c in
               let Q′ = kept-parents p q n Q (U .kept) in
@@ -150,12 +149,12 @@ module _ {p : List ℕ} {lo hi : ℕ} {at : LinePair} (L : TwoLines p at) where
         low = le-refl (at .na);
         high = L .neighbour .upto;
         past = λ h k a b. absurd (omega arith);
-        united = rw (sweep-none lo hi (runIn p) at (at .ca)) (united-none p (at .cb) (L .parents));
+        united = rw (sweep-none lo hi (runIn p) at (at .ca)) (united-none p (at .cb) (L .sized .parents));
       }
 
   module _ {q : List ℕ} {i j t : ℕ} (T : SweepTo p lo hi at q i j t) where
     now-lines : TwoLines q at
-    now-lines = lines-kept L (T .united .kept)
+    now-lines = lines-kept L (T .united)
 
     ends : Ends (λ r. r < at .cb) (sweepPairs lo hi (runIn p) (between at (at .ca) i))
     ends = sweep-ends lo hi (runIn p) at (at .ca) i (at .cb) (T .from) (T .upto) (L .neighbour .upto) (L .before)
@@ -163,8 +162,8 @@ module _ {p : List ℕ} {lo hi : ℕ} {at : LinePair} (L : TwoLines p at) where
     -- what skip and row ask, and a bound of the sum
     pub skip-asked : {o : ℤ} → digit o ≤ 2 → i < at .cb → ToSkip q i j (at .nb) o
     skip-asked h l = record {
-      here = omega (arith, now-lines .parents .room);
-      room = omega (arith, now-lines .parents .room, L .before);
+      here = omega (arith, now-lines .sized .parents .room);
+      room = omega (arith, now-lines .sized .parents .room, L .before);
       upto = T .high;
       is-hi = h;
     }
@@ -172,13 +171,13 @@ module _ {p : List ℕ} {lo hi : ℕ} {at : LinePair} (L : TwoLines p at) where
     pub row-asked : {o : ℤ} {r : ℕ} → digit o ≤ 2 → i < at .cb → Skipped hi (runIn q) i j (at .nb) r → ToRow q i r (at .nb) o
     row-asked {r = r} h l S =
         record {
-          parents = parents-fewer q (at .cb) (max (suc i) (at .nb)) (now-lines .parents) (omega (arith, L .before));
+          sized = sized-fewer q (at .cb) (max (suc i) (at .nb)) (now-lines .sized) (omega (arith, L .before));
           order = order-from (runIn q) (at .na) (at .nb) (now-lines .neighbour) r (omega (arith, T .low, S .low)) (S .high);
           is-lo = h;
         }
 
     pub sweep-few : t ≤ at .cb
-    sweep-few = united-few (L .parents) ends (T .united)
+    sweep-few = united-few (L .sized .parents) ends (T .united)
 
     pub sweep-turn : {s : List ℕ} {r u : ℕ} → i < at .cb → Skipped hi (runIn q) i j (at .nb) r → RowUnites q s i r (at .nb) lo u
         → SweepTo p lo hi at s (i + 1) r (t + u)
@@ -198,7 +197,7 @@ module _ {p : List ℕ} {lo hi : ℕ} {at : LinePair} (L : TwoLines p at) where
                 sweep-more lo hi (runIn p) at (at .ca) i (T .from),
                 sweep-row lo hi (runIn p) at i r (L .neighbour) (omega (arith, T .low, S .low)) whole,
               )
-              (united-then p (at .cb) (L .parents) q (sweepPairs lo hi (runIn p) (between at (at .ca) i)) t ends (T .united) s
+              (united-then p (at .cb) (L .sized .parents) q (sweepPairs lo hi (runIn p) (between at (at .ca) i)) t ends (T .united) s
               (rowPairs lo (runIn p) i r (at .nb)) u row);
         }
       where
@@ -223,7 +222,7 @@ module _ {p : List ℕ} {lo hi : ℕ} {at : LinePair} (L : TwoLines p at) where
 
         row : United q s (at .cb) (rowPairs lo (runIn p) i r (at .nb)) u
         row = subst (λ (R : ℕ → Run). United q s (at .cb) (rowPairs lo R i r (at .nb)) u) same
-            (W (at .cb) (now-lines .parents) h (L .before))
+            (W (at .cb) (now-lines .sized .parents) h (L .before))
 
     pub sweep-done : at .cb ≤ i → United p q (at .cb) (sweepPairs lo hi (runIn p) at) t
     sweep-done h =

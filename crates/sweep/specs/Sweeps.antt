@@ -12,7 +12,7 @@ use Rattle.frame.specs.Memory.{stride}
 use Rattle.frame.specs.Runs.{Run}
 use Rattle.frame.specs.Words.{startAt, endAt}
 use Rattle.frame.specs.Touches.{reaches}
-use Rattle.forest.specs.Unions.{Parents, United}
+use Rattle.forest.specs.Unions.{Parents, Sized, United}
 use Rattle.sweep.specs.declared.LinePair.{LinePair}
 use Rattle.sweep.specs.declared.Nbr.{Nbr}
 
@@ -28,7 +28,7 @@ pub record InOrder (R : ℕ → Run) (a b : ℕ) : Type 0 where
 
 -- the runs of two lines, the current one's being the last that there are
 pub record TwoLines (p : List ℕ) (at : LinePair) : Type 0 where
-  pub parents : Parents p (at .cb)
+  pub sized : Sized p (at .cb)
   pub current : InOrder (runIn p) (at .ca) (at .cb)
   pub neighbour : InOrder (runIn p) (at .na) (at .nb)
   pub before : at .nb ≤ at .cb
@@ -68,7 +68,7 @@ pub record Skipped (hi : ℕ) (R : ℕ → Run) (i j nb r : ℕ) : Type 0 where
 
 -- row reads the end of run i, and starts of the runs j to before nb
 pub record ToRow (p : List ℕ) (i j nb : ℕ) (lo : ℤ) : Type 0 where
-  pub parents : Parents p (max (suc i) nb)
+  pub sized : Sized p (max (suc i) nb)
   pub order : InOrder (runIn p) j nb
   pub is-lo : digit lo ≤ 2
 

@@ -4,7 +4,7 @@
 //     sweep         unites each pair of runs that two comparisons pass, with the neighbouring runs' ends widened or shifted by one
 //
 // Promised (specs/Sweeps.antt): the roots afterwards are those of the grouping held before with the pairs of runs that reach each other
-// added, the answer is how many of the unions were joins, and every word but parents stands.
+// added, the answer is how many of the unions were joins, and every word but group words (parents and sizes) stands.
 ghost use mathlib.Core.Path.{_≡_};
 ghost use Prim.Native.Nat.{_+_, _-_, _≤_};
 ghost use lib.Dec.{ltb, leb};

@@ -152,6 +152,7 @@ module _ {A : Type 0} {shape structure : List ℕ} {cells : List A} {g : Geo} {v
     parents = U .parents;
     grouped = λ r h. rw (← same) (U .grouped r h);
     counted = rw (← same) (U .counted);
+    sized = U .sized;
     no-lines = U .no-lines;
   }
     where
@@ -277,6 +278,7 @@ module _ {A : Type 0} {f : A → Bool} {shape structure : List ℕ} {cells : Lis
             room = R .room;
             sorted = R .sorted;
             parents = R .parents;
+            small = R .small;
           }
 
       module _ {ws₂ : List ℕ} {t : ℕ} (U : BlockUnited (g .leads) (g .dims) L structure ws₁ ws₂ fed k t) where

@@ -1,145 +1,133 @@
--- The cells of each number, run by run.
+-- The sizes of roots copied so far, while the runs are named.
 -- Assumes nothing.
 use mathlib.Core.Path.{_≡_, refl, sym, ap, _∙_, subst}
-use mathlib.Core.Bool.{Bool, true, false}
+use mathlib.Core.Bool.{Bool, true, false, cond}
 use mathlib.Core.List.{List}
-use Prim.Native.Nat.{ℕ, suc, _+_, _*_, _-_, _≤_, _<_}
-use native.Mathlib.Decide.{le-ind}
-use native.Mathlib.Nat.{le-refl}
+use Prim.Native.Nat.{ℕ, suc, _+_, _*_, _≤_, _<_}
 use native.Mathlib.Numerals.{add-one}
 use native.Mathlib.Omega.{arith}
-use borrow.Author.Tests.{eqb-true, eqb-false, eq-eqb, ne-eqb}
+use borrow.Author.Tests.{eqb-true, eqb-false}
 use lib.Dec.{eqb}
 use lib.ListN.{length, getD, set, length-set}
-use lib.Seq.{getD-set-same, getD-set-other}
-use Rattle.frame.specs.Kinds.{u32}
+use lib.Seq.{getD-set-same, getD-set-other, ext-getD}
+use Rattle.groups.specs.Groups.{count}
+use Rattle.groups.proofs.CountLaws.{count-mono}
 use Rattle.frame.specs.Memory.{stride}
-use Rattle.frame.specs.Runs.{Run}
-use Rattle.frame.specs.Words.{runStart, runEnd, parentOf, nameOf}
-use Rattle.forest.specs.Forest.{numberIn}
-use Rattle.write.specs.Writes.{runCells, SizesReady, SizesWritten}
+use Rattle.frame.specs.Words.{parentOf, namePlace, sizePlace, sizeWord}
+use Rattle.frame.proofs.SetLaws.{setAll-other}
+use Rattle.forest.specs.Forest.{own, roots, numberIn, sizeList}
 use Rattle.names.specs.Names.{Named, NameReady}
-use Rattle.write.specs.Steps.{Filled}
-use Rattle.names.proofs.NameLaws.{now-long, now-runs, now-name, number-pos, number-le, named-none, next-asked, next-named}
+use Rattle.names.proofs.NameLaws.{now-long, named-none, next-asked, next-named}
+use Rattle.write.specs.Writes.{SizesReady, SizesWritten}
+use Rattle.forest.proofs.SizeListLaws.{length-list, list-stands, list-last}
 
--- ---- how many cells the first runs with a number have
+-- ---- how many roots there are
 
-module _ (L : ℕ) (ws : List ℕ) where
-  cells-none : (g : ℕ) → runCells L ws g 0 ≡ 0
-  unfolding runCells
-  cells-none g = refl
+roots-rise : (p : ℕ → ℕ) (m n : ℕ) → m ≤ n → roots p m ≤ roots p n
+unfolding roots
+roots-rise p m n h = count-mono (own p) m n h
 
-  cells-on : (g r : ℕ) → numberIn (parentOf L ws) r ≡ g → runCells L ws g (suc r) ≡ runEnd L ws r - runStart L ws r + runCells L ws g r
-  unfolding runCells
-  cells-on g r e = rw (eq-eqb (numberIn (parentOf L ws) r) g e)
+roots-next : (p : ℕ → ℕ) (n : ℕ) → roots p (suc n) ≤ suc (roots p n)
+unfolding roots count
+roots-next p n = go (own p n)
+  where
+    go : (b : Bool) → cond b 1 0 + count (own p) n ≤ suc (count (own p) n)
+    go true = omega arith
+    go false = omega arith
 
-  cells-off : (g r : ℕ) → (numberIn (parentOf L ws) r ≡ g → ⊥) → runCells L ws g (suc r) ≡ runCells L ws g r
-  unfolding runCells
-  cells-off g r ne = rw (ne-eqb (numberIn (parentOf L ws) r) g ne) (omega arith)
+roots-none : (p : ℕ → ℕ) → roots p 0 ≡ 0
+unfolding roots count
+roots-none p = refl
 
-  cells-rise : (g m n : ℕ) → m ≤ n → runCells L ws g m ≤ runCells L ws g n
-  cells-rise g m n h = le-ind (λ k. runCells L ws g m ≤ runCells L ws g k) (le-refl _) (λ k l below. step k below) n h
-    where
-      step : (k : ℕ) → runCells L ws g m ≤ runCells L ws g k → runCells L ws g m ≤ runCells L ws g (suc k)
-      step k below = unfold runCells in omega (arith, below)
+-- ---- naming changes no size
 
--- ---- the sizes up to before run r, where `count` is how many numbers there are
+size-stands : {L r : ℕ} {ws now : List ℕ} {c : ℕ} → Named L r ws now c → (k : ℕ) → sizeWord L now k ≡ sizeWord L ws k
+size-stands {L} {r} {ws} N k =
+    ap (λ (vs : List ℕ). sizeWord L vs k) (N .names)
+    ∙ setAll-other (namePlace L) (numberIn (parentOf L ws)) r ws (sizePlace L k) (λ i h q. omega arith)
 
+-- ---- the sizes of the roots among the first r runs, in the first places of the slice
+
+pub record Copied (L : ℕ) (ws : List ℕ) (count : ℕ) (sizes : List ℕ) (r : ℕ) : Type 0 where
+  pub long : length sizes ≡ count
+  pub listed : (g : ℕ) → g < roots (parentOf L ws) r → getD sizes g 0 ≡ getD (sizeList (parentOf L ws) (sizeWord L ws) r) g 0
+
+-- the loop up to before run r, where `count` is the length of the slice
 pub record SizesTo (L n : ℕ) (ws : List ℕ) (count : ℕ) (now : List ℕ) (c : ℕ) (sizes : List ℕ) (r : ℕ) : Type 0 where
   pub asked : SizesReady L n ws count
   pub upto : r ≤ n
   pub names : Named L r ws now c
-  pub long : length sizes ≡ count
-  pub counts : (g : ℕ) → g < count → getD sizes g 0 ≡ runCells L ws (suc g) r
+  pub copied : Copied L ws count sizes r
 
-pub sizes-begin : {L n : ℕ} {ws out zeros : List ℕ} {count : ℕ} → SizesReady L n ws count → length out ≡ count
-    → Filled u32 0 count 0 out zeros → SizesTo L n ws count ws 0 zeros 0
-sizes-begin {L} {n} {ws} A e F = record {
+pub sizes-begin : {L n : ℕ} {ws out : List ℕ} → SizesReady L n ws (length out) → SizesTo L n ws (length out) ws 0 out 0
+sizes-begin {L} {n} {ws} A = record {
   asked = A;
   upto = omega arith;
   names = named-none L ws;
-  long = F .long ∙ e;
-  counts = λ g h. F .inside g (omega arith) h ∙ sym (cells-none L ws (suc g));
+  copied = record { long = refl; listed = λ g h. absurd (omega (arith, h, roots-none (parentOf L ws))) };
 }
 
 module _ {L n : ℕ} {ws : List ℕ} {count : ℕ} {now : List ℕ} {c : ℕ} {sizes : List ℕ} {r : ℕ} (T : SizesTo L n ws count now c sizes r) where
   abbrev A : SizesReady L n ws count
   A = T .asked
 
+  abbrev p : ℕ → ℕ
+  p = parentOf L ws
+
+  abbrev size : ℕ → ℕ
+  size = sizeWord L ws
+
   module _ (h : r < n) where
     pub size-asked : NameReady L r now c
     size-asked = next-asked (A .runs) (T .names) h
 
-    module _ {later : List ℕ} {d : ℕ} (M : Named L (suc r) now later d) where
-      N : Named L (suc r) ws later d
-      N = next-named (A .runs) (T .names) h M
+    -- the run's words are there
+    pub size-words : L + 1 + stride * suc r ≤ length now
+    size-words = omega (arith, now-long (T .names), A .runs .room)
 
-      -- the run's words are there
-      pub size-words : L + 1 + stride * suc r ≤ length later
-      size-words = omega (arith, now-long N, A .runs .room)
+    -- the run's size at the next root's place: right if the run is a root, and past those that count if not
+    pub size-put : {v : ℕ} → v ≡ sizeWord L now r → c < count → Copied L ws count (set sizes c v) (suc r)
+    size-put {v} is-size room = record { long = length-set sizes c v ∙ T .copied .long; listed = λ g l. go g l (eqb g c) refl }
+      where
+        go : (g : ℕ) → g < roots p (suc r) → (t : Bool) → eqb g c ≡ t → getD (set sizes c v) g 0 ≡ getD (sizeList p size (suc r)) g 0
+        go g l true t =
+            let e = eqb-true g c t in
+            let q = e ∙ T .names .counted in
+            ap (λ (k : ℕ). getD (set sizes c v) k 0) e
+            ∙ getD-set-same sizes c v 0 (omega (arith, room, T .copied .long)) ∙ is-size ∙ size-stands (T .names) r
+            ∙ sym (list-last p size r (omega (arith, l, q))) ∙ ap (λ (k : ℕ). getD (sizeList p size (suc r)) k 0) (sym q)
+        go g l false t =
+            let ne = eqb-false g c t in
+            let below : g < roots p r = omega (arith, l, ne, T .names .counted, roots-next p r) in
+            getD-set-other sizes c g v 0 ne ∙ T .copied .listed g below ∙ sym (list-stands p size r g below)
 
-      module _ {number start end : ℕ} (at-number : number ≡ nameOf L later r)
-          (at-start : start ≡ getD later (L + 1 + (stride * r + 0)) 0) (at-end : end ≡ runEnd L later r) where
-        number-is : number ≡ numberIn (parentOf L ws) r
-        number-is = at-number ∙ now-name N (omega (arith, A .runs .room)) r (le-refl (suc r))
+    -- where no place is left, the run is no root
+    pub size-skipped : count ≤ c → Copied L ws count sizes (suc r)
+    size-skipped full = record {
+      long = T .copied .long;
+      listed = λ g l.
+          let below : g < roots p r = omega (arith, l, full, T .names .counted, A .groups, roots-rise p (suc r) n h) in
+          T .copied .listed g below ∙ sym (list-stands p size r g below);
+    }
 
-        start-is : start ≡ runStart L ws r
-        start-is =
-            let e : L + 1 + (stride * r + 0) ≡ L + 1 + stride * r = omega arith in
-            at-start ∙ ap (λ (j : ℕ). getD later j 0) e ∙ ap (λ (f : ℕ → Run). f r .start) (now-runs N)
+    pub size-turn : {stored later : List ℕ} {d : ℕ} → Copied L ws count stored (suc r) → Named L (suc r) now later d
+        → SizesTo L n ws count later d stored (r + 1)
+    size-turn {stored} {later} {d} C M = subst (SizesTo L n ws count later d stored) (sym (add-one r)) (record {
+      asked = A;
+      upto = h;
+      names = next-named (A .runs) (T .names) h M;
+      copied = C;
+    })
 
-        end-is : end ≡ runEnd L ws r
-        end-is = at-end ∙ ap (λ (f : ℕ → Run). f r .end) (now-runs N)
-
-        -- the number is one of those that have a place
-        pub size-place : (1 ≤ number) × (number - 1 < length sizes)
-        size-place =
-            let lo = number-pos (parentOf L ws) n (A .runs .parents) r h in
-            let hi = number-le (parentOf L ws) n (A .runs .parents) r h in
-            (omega (arith, number-is), omega (arith, number-is, A .groups, T .long))
-
-        pub size-upward : start ≤ end
-        size-upward = rw (start-is, end-is) (A .upward r h)
-
-        -- its number's place, and the size there with this run's cells
-        abbrev place : ℕ
-        place = number - 1
-
-        abbrev more : ℕ
-        more = getD sizes (number - 1) 0 + (end - start)
-
-        added : more ≡ runCells L ws (suc place) (suc r)
-        added =
-            rw (T .counts (number - 1) (omega (arith, size-place, T .long)), start-is, end-is)
-            (omega (arith, cells-on L ws (suc (number - 1)) r (omega (arith, number-is, size-place))))
-
-        pub size-fits : getD sizes (number - 1) 0 + (end - start) < 4294967296
-        size-fits = omega (arith, added, cells-rise L ws (suc (number - 1)) (suc r) n h, A .small (suc (number - 1)))
-
-        pub size-turn : SizesTo L n ws count later d (set sizes (number - 1) (getD sizes (number - 1) 0 + (end - start))) (r + 1)
-        size-turn = subst (SizesTo L n ws count later d (set sizes place more)) (sym (add-one r)) (record {
-          asked = A;
-          upto = h;
-          names = N;
-          long = length-set sizes place more ∙ T .long;
-          counts = λ g l. go g l (eqb g place) refl;
-        })
-          where
-            go : (g : ℕ) → g < count → (t : Bool) → eqb g place ≡ t → getD (set sizes place more) g 0 ≡ runCells L ws (suc g) (suc r)
-            go g l true t =
-                let q = eqb-true g place t in
-                ap (λ (k : ℕ). getD (set sizes place more) k 0) q
-                ∙ getD-set-same sizes place more 0 (size-place .1) ∙ added ∙ ap (λ (k : ℕ). runCells L ws (suc k) (suc r)) (sym q)
-            go g l false t =
-                let ne = eqb-false g place t in
-                getD-set-other sizes place g more 0 ne ∙ T .counts g l
-                ∙ sym (cells-off L ws (suc g) r (λ q. ne (omega (arith, q, number-is))))
-
-  pub sizes-done : {out : List ℕ} → length out ≡ count → n ≤ r → SizesWritten L n ws now out sizes
-  sizes-done {out} e left =
+  pub sizes-done : n ≤ r → SizesWritten L n ws now sizes
+  sizes-done left =
       let all : r ≡ n = omega (arith, T .upto) in
-      record {
-        names = subst (λ (k : ℕ). Named L k ws now c) all (T .names) .names;
-        long = T .long ∙ sym e;
-        counts = λ g h. T .counts g (omega (arith, e)) ∙ ap (runCells L ws (suc g)) all;
-      }
+      subst (λ (k : ℕ). SizesWritten L k ws now sizes) all (record {
+        names = T .names .names;
+        sizes =
+            ext-getD 0 sizes (sizeList p size r) (whole all)
+            (λ i l. T .copied .listed i (omega (arith, whole all, length-list p size r)));
+      })
+    where
+      whole : r ≡ n → length sizes ≡ length (sizeList p size r)
+      whole all = T .copied .long ∙ A .groups ∙ ap (roots p) (sym all) ∙ sym (length-list p size r)

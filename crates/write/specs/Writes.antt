@@ -1,15 +1,13 @@
--- What writing the numbers of cells and counting the cells of each group ask, and what they do. Both name the runs.
+-- What writing the numbers of cells and copying the sizes of groups ask, and what they do. Both name the runs.
 -- Assumes nothing.
 use mathlib.Core.Path.{_≡_}
-use mathlib.Core.Bool.{cond}
 use mathlib.Core.List.{List}
-use Prim.Native.Nat.{ℕ, zero, suc, _+_, _-_, _*_, _≤_, _<_}
-use lib.Dec.{eqb}
+use Prim.Native.Nat.{ℕ, suc, _+_, _*_, _≤_, _<_}
 use lib.ListN.{length, getD}
 use Rattle.frame.specs.Kinds.{Number, largest, Value, write}
 use Rattle.frame.specs.Runs.{Covers}
-use Rattle.frame.specs.Words.{lineStart, runStart, runEnd, parentOf, storedRun}
-use Rattle.forest.specs.Forest.{roots, numberIn}
+use Rattle.frame.specs.Words.{lineStart, runEnd, parentOf, sizeWord, storedRun}
+use Rattle.forest.specs.Forest.{roots, numberIn, sizeList}
 use Rattle.sweep.specs.Sweeps.{InOrder}
 use Rattle.names.specs.Names.{NamesReady, named}
 
@@ -47,21 +45,14 @@ pub record LinesWritten (kind : Number) (L w fed : ℕ) (ws ws′ : List ℕ) (o
   pub covered : (ℓ x r : ℕ) → AtCell L fed ws ℓ x r → outputAt kind out′ (ℓ * w + x) ≡ write kind (numberIn (parentOf L ws) r)
   pub zeros : (ℓ x : ℕ) → ℓ < L → x < w → ((r : ℕ) → AtCell L fed ws ℓ x r → ⊥) → outputAt kind out′ (ℓ * w + x) ≡ write kind 0
 
--- ---- the cells of each group
+-- ---- the sizes of groups
 
--- how many cells the first n runs with number g have
-unfoldable pub runCells : ℕ → List ℕ → ℕ → ℕ → ℕ
-runCells L ws g zero = 0
-runCells L ws g (suc n) = cond (eqb (numberIn (parentOf L ws) n) g) (runEnd L ws n - runStart L ws n) 0 + runCells L ws g n
-
--- what counting them asks, where `count` is the length of the slice: a word holds each count
+-- what copying them asks, where `count` is the length of the slice: one place for each root
 pub record SizesReady (L n : ℕ) (ws : List ℕ) (count : ℕ) : Type 0 where
   pub runs : NamesReady L n ws
-  pub upward : (r : ℕ) → r < n → runStart L ws r ≤ runEnd L ws r
   pub groups : count ≡ roots (parentOf L ws) n
-  pub small : (g : ℕ) → runCells L ws g n < 4294967296
 
-pub record SizesWritten (L n : ℕ) (ws ws′ out out′ : List ℕ) : Type 0 where
+-- what it does: the runs are named, and the roots' sizes stand in the order of their numbers
+pub record SizesWritten (L n : ℕ) (ws ws′ out′ : List ℕ) : Type 0 where
   pub names : ws′ ≡ named L n ws
-  pub long : length out′ ≡ length out
-  pub counts : (g : ℕ) → g < length out → getD out′ g 0 ≡ runCells L ws (suc g) n
+  pub sizes : out′ ≡ sizeList (parentOf L ws) (sizeWord L ws) n

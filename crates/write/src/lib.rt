@@ -3,11 +3,11 @@
 //     paint_run_T           one run's cells, for each kind of number T
 //     paint_line_T          one line's cells, each with the name of its run, into that line's part of the output
 //     write_block_T         every line: the fed ones named and painted, zeros for the others
-//     size_block            how many cells each number has
+//     size_block            each number's size, as its root's word has it
 //
 // Crate names writes the names, once for all kinds; painting reads them and writes the output. Promised (specs/Writes.antt): each run has
-// its number as its name and no other word changes, each cell has the number of the run that covers it or 0, and each size is the count
-// of its number's cells.
+// its number as its name and no other word changes, each cell has the number of the run that covers it or 0, and each size is the word of
+// its number's root.
 ghost use mathlib.Core.Path.{_≡_};
 ghost use Prim.Native.Nat.{_+_, _≤_};
 ghost use lib.ListN.{length};
@@ -284,22 +284,21 @@ pub fn write_block_u32(words: &mut [u32], g: geo::Geo, fed: usize, out: &mut [u3
 
 // ---- sizes
 
-// Names all runs, and adds the cells of each to the size of its number.
+// Names all runs, and copies the sizes of roots, in the order of their numbers. The size of each run goes to the next root's place, without
+// a branch that depends on the run: another follows it there until the root has come.
 pub fn size_block(words: &mut [u32], lines: usize, runs: usize, sizes: &mut [u32])
     requires { ⌜ SizesReady lines runs (now words) (length (now sizes)) ⌝ }
-    ensures { λ _. ⌜ SizesWritten lines runs
-        (now (words .entry)) (now (words .exit)) (now (sizes .entry)) (now (sizes .exit)) ⌝ }
+    ensures { λ _. ⌜ SizesWritten lines runs (now (words .entry)) (now (words .exit)) (now (sizes .exit)) ⌝ }
 {
     let places = sizes.len();
-    fill_u32(sizes, 0, places, 0);
     let mut named: u32 = 0;
     let mut r: usize = 0;
     while r < runs {
+        let next = named as usize;
+        if next < places {
+            sizes[next] = names::word(words, lines, r, frame::SIZE);
+        }
         named = names::name_run(words, lines, r, named);
-        let start = names::word(words, lines, r, 0);
-        let end = names::word(words, lines, r, frame::END);
-        let number = names::word(words, lines, r, frame::NAME);
-        sizes[number as usize - 1] += end - start;
         r += 1;
     }
 }

@@ -7,7 +7,7 @@
 mod ours;
 
 use drivers::drawn::{CROSS, FULL, disks, hard_frames, noise};
-use drivers::plain::words_needed;
+use drivers::plain::{END, PARENT, SIZE, STRIDE, words_needed};
 use drivers::random::Random;
 use ours::{ANSWER, Fed, Labels, Reads, label_open, label_record_words, label_sizes};
 use std::hint::black_box;
@@ -282,9 +282,9 @@ impl Scan {
         let (mut a, mut b, mut c) = (f64::MAX, f64::MAX, f64::MAX);
         for _ in 0..tries {
             a = a.min(self.feed(0, &[]));
-            let stored = &self.words[self.n + 1..][..4 * self.answer[1] as usize];
+            let stored = &self.words[self.n + 1..][..STRIDE * self.answer[1] as usize];
             let t = Instant::now();
-            black_box(three(black_box(stored)));
+            black_box(four(black_box(stored)));
             b = b.min(t.elapsed().as_secs_f64());
             let t = Instant::now();
             black_box(sum(black_box(stored)));
@@ -298,7 +298,7 @@ impl Scan {
 
 fn session(r: &mut Random, tries: usize) {
     println!(
-        "a session of 1,024 by 1,024 fed line by line, ns per stored run: a feed; a plain read of the three words of each run that a feed looks at;"
+        "a session of 1,024 by 1,024 fed line by line, ns per stored run: a feed; a plain read of the four words of each run that a feed looks at;"
     );
     println!("a sum of all stored words, which becomes vector code; then the feed by the one and by the other");
     let n = 1024;
@@ -332,11 +332,13 @@ fn readings(r: &mut Random, tries: usize) {
     }
 }
 
+/// Start, end, parent and size of each run.
 #[inline(never)]
-fn three(stored: &[u32]) -> u32 {
+fn four(stored: &[u32]) -> u32 {
     let mut s = 0u32;
-    for r in 0..stored.len() / 4 {
-        s = s.wrapping_add(stored[4 * r]).wrapping_add(stored[4 * r + 1]).wrapping_add(stored[4 * r + 2]);
+    for r in 0..stored.len() / STRIDE {
+        let at = STRIDE * r;
+        s = s.wrapping_add(stored[at]).wrapping_add(stored[at + END]).wrapping_add(stored[at + PARENT]).wrapping_add(stored[at + SIZE]);
     }
     s
 }

@@ -3,7 +3,7 @@
 use Prim.Native.Nat.{_+_}
 use native.Mathlib.Omega.{arith}
 use borrow.Author.Needs.{needs}
-use Rattle.block.proofs.BlockResetLaws.{reset-room, reset-back}
+use Rattle.block.proofs.BlockResetLaws.{reset-asked, reset-back}
 use Rattle.block.proofs.reset_block.Statement.{statement}
 use Rattle.block.proofs.reset_block.Tie as tie
 
@@ -45,13 +45,11 @@ part-reset-end c = search needs
 
 reset-requires : tie.Need-reset-requires
 reset-requires c κs =
-    let s = c .before .before .before .before in (
-      reset-room (s .args .lines) (s .args .words .now) (s .args .fed) (s .args .k) (s .pre),
-      omega (
-        arith,
-        c .before .slice-known3 .given (s .args .fed + s .args .k),
-      ),
-    )
+    let s = c .before .before .before .before in
+    reset-asked (s .args .lines) (s .args .words .now) (s .args .fed) (s .args .k) (s .pre) (omega (
+      arith,
+      c .before .slice-known3 .given (s .args .fed + s .args .k),
+    ))
 
 same-length : tie.Need-same-length
 same-length c = search needs

@@ -7,7 +7,7 @@ use borrow.Author.Needs.{needs}
 use lib.ListN.{length}
 use mathlib.Core.Path.{_≡_}
 use Rattle.block.proofs.LineUnionLaws.{Going, going-none, going-few, going-ready, going-then}
-use Rattle.block.proofs.BlockUnionLaws.{block-idle, reset-ready, reset-own, block-united}
+use Rattle.block.proofs.BlockUnionLaws.{block-idle, reset-may, reset-ready, reset-own, block-united}
 use Rattle.block.proofs.union_block.Statement.{statement}
 use Rattle.block.proofs.union_block.Tie as tie
 
@@ -26,7 +26,7 @@ returns : tie.Need-returns Inv-loop μ-loop
 returns c = block-idle (c .before .before .before .args .g) _ _ _ _ (c .before .before .before .pre) (c .if1 .taken)
 
 reset-block-requires : tie.Need-reset-block-requires Inv-loop μ-loop
-reset-block-requires c κs = let s = c .before .before .before .before in record { within = s .pre .within; room = s .pre .room }
+reset-block-requires c κs = let s = c .before .before .before .before in reset-may (s .args .g) _ _ _ _ (s .pre)
 
 loop-holds : tie.Need-loop-holds Inv-loop μ-loop
 loop-holds c =

@@ -20,8 +20,8 @@ same-length : tie.Need-same-length
 same-length c = search needs
 
 returns : tie.Need-returns
-returns c = labels-done (c .before .before .before .before .before .before .before .before .before .before .pre) (replicate 9265 0)
-    (length-replicate {A = ℕ} 9265 0) (c .before .before .before .label-impl-u8-u16 .ensures)
+returns c = labels-done (c .before .before .before .before .before .before .before .before .before .before .pre) (replicate 11569 0)
+    (length-replicate {A = ℕ} 11569 0) (c .before .before .before .label-impl-u8-u16 .ensures)
 
 pub label-into-spec : {M : Type 1} → statement M
 label-into-spec =

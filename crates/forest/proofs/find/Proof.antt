@@ -11,7 +11,7 @@ use Rattle.frame.specs.Words.{parentAt}
 use Rattle.forest.specs.Forest.{rootOf}
 use Rattle.forest.specs.Unions.{parentIn, Parents, Finds}
 use Rattle.forest.proofs.ForestLaws.{root-stays, root-parent}
-use Rattle.forest.proofs.ParentLaws.{kept-refl, kept-parents}
+use Rattle.forest.proofs.ParentLaws.{only-refl, only-parents}
 use Rattle.forest.proofs.UnionLaws.{found-half, finds-long}
 use Rattle.forest.proofs.find.Statement.{statement}
 use Rattle.forest.proofs.find.Tie as tie
@@ -24,7 +24,7 @@ abbrev μ-loop : tie.MeasureT-loop
 
 -- the runs up to x are there, with low parents
 parents : (c : tie.At-loop Inv-loop μ-loop) → Parents (c .loop .p) (suc (c .before .args .x))
-parents c = kept-parents _ _ _ (c .before .pre) (c .loop .inv .1 _ (c .before .pre) (le-refl _) .kept)
+parents c = only-parents _ _ _ (c .before .pre) (c .loop .inv .1 _ (c .before .pre) (le-refl _) .kept)
 
 -- hence the words of run `at` and of its parent are in the slice, and neither's parent is above it
 room : (c : tie.At-loop Inv-loop μ-loop) → stride * suc (c .loop .at) ≤ length (c .loop .p)
@@ -41,7 +41,7 @@ low-up : (c : tie.At-loop Inv-loop μ-loop)
 low-up c = parents c .low _ (omega (arith, low c, c .loop .inv .0))
 
 loop-holds : tie.Need-loop-holds Inv-loop μ-loop
-loop-holds c = (le-refl _, λ n P h. record { kept = kept-refl _ n P; same = λ r l. refl; found = refl })
+loop-holds c = (le-refl _, λ n P h. record { kept = only-refl _ n P; same = λ r l. refl; found = refl })
 
 mul-up : tie.Need-mul-up Inv-loop μ-loop
 mul-up c = omega (arith, room c)

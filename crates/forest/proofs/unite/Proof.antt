@@ -47,7 +47,7 @@ use denote.Triple.Walked.{says, needs, Stays, stay-none, walkOf, goes-none, Walk
 use denote.Exit.{yes}
 use denote.Signature.{plain}
 use denote.Signature.Struct.{makes}
-use Rattle.forest.specs.Unions.{Parents, Unites}
+use Rattle.forest.specs.Unions.{Sized, Unites}
 use Rattle.forest.specs.declared.Uf.{Uf}
 use Rattle.forest.proofs.UnionLaws.{unites-long}
 use Rattle.forest.proofs.Uf as T
@@ -86,7 +86,7 @@ module _ {M : Type 1} (𝓤 : URA M) (H : Heap 𝓤) (A : Atoms 𝓤) (W : Given
   h l = record { p = x l }
 
   abbrev Pre : Type 0
-  Pre = Parents ys (suc (max i j))
+  Pre = Sized ys (suc (max i j))
 
   abbrev Did : Bool → Uf → Type 0
   Did r u = Unites ys (u .p .now) i j r × (u .p ≡ at-last (x ys) (u .p .now))
@@ -243,7 +243,7 @@ module _ {M : Type 1} (𝓤 : URA M) (H : Heap 𝓤) (A : Atoms 𝓤) (W : Given
   walks C Λ fm known = walked 𝓤 H A this.ended stayed (this.clauses 𝓤 H A mem run) (WpFn 𝓤 H C Λ code.function)
       (λ κs. (slice-vals, (uint-vals w64, (uint-vals w64, tt))))
       (λ κs. (mut-slice-tells (named 0) (κs .0) u32, (uint-tells w64, (uint-tells w64, tt))))
-      (λ κs qs bounds a g are. needs 𝓤 (Parents (a .0 .now) (suc (max (a .1 .0) (a .1 .1 .0)))) _
+      (λ κs qs bounds a g are. needs 𝓤 (Sized (a .0 .now) (suc (max (a .1 .0) (a .1 .1 .0)))) _
       (walk 𝓤 H A W mem run (κs .0) (qs .0) (a .0 .ptr .0) (a .0 .ptr .1) (a .0 .name) (a .0 .now) (a .1 .0) (a .1 .1 .0) (are .1 .0 .1)
       (are .1 .1 .0 .1) C Λ fm known (are .0 .0 .1)))
 

@@ -6,10 +6,10 @@ use Rattle.frame_test.proofs.try_all_blocks.Statement.{statement}
 use Rattle.frame_test.proofs.try_all_blocks.Tie as tie
 
 abbrev Inv-loop : tie.InvT-loop
-Inv-loop shape structure flags call lines laid₀ marks right fed state₀ blocks₀ blocks-end laid state blocks = Unit {0}
+Inv-loop shape structure flags call lines laid₀ marks sizes right fed state₀ blocks₀ blocks-end laid state blocks = Unit {0}
 
 abbrev μ-loop : tie.MeasureT-loop
-μ-loop shape structure flags call lines laid₀ marks right fed state₀ blocks₀ blocks-end laid state blocks = blocks-end - blocks
+μ-loop shape structure flags call lines laid₀ marks sizes right fed state₀ blocks₀ blocks-end laid state blocks = blocks-end - blocks
 
 plus-requires : tie.Need-plus-requires Inv-loop μ-loop
 plus-requires c κs = tt

@@ -49,7 +49,7 @@ sub-result c = roots-few _ _ _ (c .before .before .before .before .before .runs-
 
 returns-3 : tie.Need-returns-3
 returns-3 c =
-    let f = c .before .before .before .before .before .before in
+    let f = c .before .before .before .before .before .before .before in
     let l = f .before .before .before in
     let m = l .before .before .before in
     let P = m .before .before .pre in

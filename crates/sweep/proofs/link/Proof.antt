@@ -61,7 +61,7 @@ first c =
 sweep-shift-requires-2 : tie.Need-sweep-shift-requires-2
 sweep-shift-requires-2 c κs =
     let s = c .before .before .before .before .before .before .before .before in
-    record { lines = lines-kept (s .pre) (first (c .before .before) .kept); is-lo = omega arith; is-hi = omega arith }
+    record { lines = lines-kept (s .pre) (first (c .before .before)); is-lo = omega arith; is-hi = omega arith }
 
 returns-3 : tie.Need-returns-3
 returns-3 c =

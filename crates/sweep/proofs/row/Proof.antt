@@ -9,7 +9,7 @@ use mir.Val.{toZ}
 use Rattle.frame.specs.Structure.{digit}
 use Rattle.sweep.proofs.SignedLaws.{off-back}
 use Rattle.sweep.proofs.ShiftLaws.{off-le}
-use Rattle.sweep.proofs.TurnLaws.{RowTo, row-begins, row-parents, row-turn, row-done}
+use Rattle.sweep.proofs.TurnLaws.{RowTo, row-begins, row-sized, row-turn, row-done}
 use Rattle.sweep.proofs.row.Statement.{statement}
 use Rattle.sweep.proofs.row.Tie as tie
 
@@ -47,7 +47,7 @@ starts-before-requires : tie.Need-starts-before-requires Inv-loop μ-loop
 starts-before-requires c κs = let s = c .before .before .before .before .before in off-le (s .args .lo) (s .pre .is-lo)
 
 unite-requires : tie.Need-unite-requires Inv-loop μ-loop
-unite-requires c κs = row-parents (c .before .before .before .before .before .before .before .before .pre .parents)
+unite-requires c κs = row-sized (c .before .before .before .before .before .before .before .before .pre .sized)
     (c .before .before .before .before .before .loop .inv) (omega arith)
 
 cast-joins : tie.Need-cast-joins Inv-loop μ-loop
@@ -57,7 +57,7 @@ loop-again : tie.Need-loop-again Inv-loop μ-loop
 loop-again c =
     let s = c .before .before .before .before .before .before .before .before .before .before .before in
     let l = c .before .before .before .before .before .before .before .before .loop in
-    row-turn (s .pre .parents) (l .inv) (omega arith)
+    row-turn (s .pre .sized) (l .inv) (omega arith)
     (sym (c .before .before .before .before .before .starts-before .ensures) ∙ c .before .before .before .before .if1 .taken)
     (c .before .before .unite .ensures)
 
@@ -65,7 +65,7 @@ loop-again c =
 add-joins : tie.Need-add-joins Inv-loop μ-loop
 add-joins c =
     let s = c .before .before .before .before .before .before .before .before .before .before .before in
-    record { fits = omega (arith, loop-again c .few, loop-again c .high, s .pre .parents .room) }
+    record { fits = omega (arith, loop-again c .few, loop-again c .high, s .pre .sized .parents .room) }
 
 add-m : tie.Need-add-m Inv-loop μ-loop
 add-m c = search needs
@@ -80,7 +80,7 @@ returns : tie.Need-returns Inv-loop μ-loop
 returns c =
     let s = c .before .before .before .before .before .before .before in
     rw (off-back (s .args .lo) (s .pre .is-lo))
-    at (row-done (s .pre .parents) (c .before .before .before .before .loop .inv) (s .pre .order)
+    at (row-done (s .pre .sized) (c .before .before .before .before .loop .inv) (s .pre .order)
     (λ h. sym (c .before .starts-before .ensures) ∙ c .if1 .left))
 
 same-length-2 : tie.Need-same-length-2 Inv-loop μ-loop
@@ -90,7 +90,7 @@ returns-2 : tie.Need-returns-2 Inv-loop μ-loop
 returns-2 c =
     let s = c .before .before .before .before in
     rw (off-back (s .args .lo) (s .pre .is-lo))
-    at (row-done (s .pre .parents) (c .before .loop .inv) (s .pre .order) (λ h. absurd (omega arith)))
+    at (row-done (s .pre .sized) (c .before .loop .inv) (s .pre .order) (λ h. absurd (omega arith)))
 
 pub row-spec : {M : Type 1} → statement M
 row-spec =

@@ -57,7 +57,7 @@ fn opening<C>(r: &mut Random, call: &Call<C>, fault: Fault) -> (u32, bool) {
     let mut number = unsafe { label_open(shape, rank, structure, bytes, words.pointer(), call.room, record.pointer(), long) };
     match fault {
         Fault::Refusal => number = 0,
-        Fault::Word => words.now_mut()[0] ^= 1,
+        Fault::Word | Fault::Size => words.now_mut()[0] ^= 1,
         Fault::Edge => unsafe { *record.pointer().add(long) ^= 1 },
         _ => {}
     }
@@ -78,7 +78,8 @@ fn held<C: Labels<N>, N: Reads>(t: &mut Tally, r: &mut Random, f: &Frame<C>, oth
     let want = if other == 1 || other == 2 { other } else { 12 };
     let blocks = below(r, 4);
     let mut o = call.frame::<N>(r, blocks);
-    o.spoil(fault);
+    // no word may change, so any will do
+    o.spoil(fault, 0);
     let name = match other {
         0 => "alone".into(),
         1 | 2 => format!("after {other}"),

@@ -4,7 +4,7 @@ use crate::ours::{ANSWER, Labels, Reads};
 use drivers::frames::{Frame, below, lines, symmetric};
 use drivers::kinds::{Cell, Number};
 use drivers::lent::Lent;
-use drivers::plain::{Did, Runs, left_byte, runs, words_differ, words_needed};
+use drivers::plain::{Did, Runs, SIZE, left_byte, run_word, runs, words_differ, words_needed};
 use drivers::random::Random;
 use drivers::tally::Tally;
 
@@ -19,6 +19,7 @@ pub enum Fault {
     Cells,
     Refusal,
     Word,
+    Size,
     Edge,
 }
 
@@ -33,8 +34,9 @@ impl Fault {
             Ok("cells") => Fault::Cells,
             Ok("refusal") => Fault::Refusal,
             Ok("word") => Fault::Word,
+            Ok("size") => Fault::Size,
             Ok("edge") => Fault::Edge,
-            Ok(other) => panic!("COMPARE_FAULT is label, count, runs, joins, cells, refusal, word or edge, not {other}"),
+            Ok(other) => panic!("COMPARE_FAULT is label, count, runs, joins, cells, refusal, word, size or edge, not {other}"),
         }
     }
 }
@@ -102,6 +104,13 @@ impl<C> Call<'_, C> {
     }
 }
 
+/// Spoils the size of run 0, which is always a root. Where there is no run the word must stand.
+pub fn spoil_size(words: &mut [u32], lines: usize) {
+    if let Some(size) = words.get_mut(run_word(lines, 0, SIZE)) {
+        *size ^= 1;
+    }
+}
+
 /// What was lent to a whole frame, and what it returned.
 pub struct Ours<N> {
     pub number: u32,
@@ -115,7 +124,8 @@ impl<N: Reads> Ours<N> {
         self.words.stands() && self.out.stands() && self.answer.stands()
     }
 
-    pub fn spoil(&mut self, fault: Fault) {
+    /// Spoils what a frame of so many lines answered.
+    pub fn spoil(&mut self, fault: Fault, lines: usize) {
         match fault {
             Fault::No => {}
             Fault::Label => {
@@ -130,6 +140,7 @@ impl<N: Reads> Ours<N> {
             Fault::Cells => self.answer.now_mut()[3] ^= 1,
             Fault::Refusal => self.number = if self.number == 0 { 10 } else { 0 },
             Fault::Word => *self.words.now_mut().last_mut().expect("a word") ^= 1,
+            Fault::Size => spoil_size(self.words.now_mut(), lines),
             Fault::Edge => unsafe { *self.out.pointer().add(self.out.len()) = N::filled(&mut Random(self.number as u64 + 99)) },
         }
     }
@@ -141,7 +152,7 @@ fn differs<C: Labels<N>, N: Reads>(r: &mut Random, f: &Frame<C>, blocks: usize, 
     let answer = ANSWER + below(r, 2);
     let call = Call { shape: &f.shape, structure: &f.structure, cells: &f.cells, places: f.cells.len(), room, answer };
     let mut o = call.frame::<N>(r, blocks);
-    o.spoil(fault);
+    o.spoil(fault, lines(&f.shape));
     if !o.words.edges_stand() || !o.out.edges_stand() || !o.answer.edges_stand() {
         return Some("an entry beside the memory lent was written".into());
     }

@@ -192,8 +192,9 @@ fn arrays(t: &mut Tally) {
 
 /// An opening into a record that is too short writes nothing.
 fn short_record(t: &mut Tally, r: &mut Random) {
-    let (mut words, mut record) = (Lent::new(28, || r.next() as u32), Lent::new(88, || 7u64));
-    let number = unsafe { label_open([3, 3].as_ptr(), 2, [1; 9].as_ptr(), 9, words.pointer(), 28, record.pointer(), 88) };
+    let room = words_needed(&[3, 3], &[1; 9]);
+    let (mut words, mut record) = (Lent::new(room, || r.next() as u32), Lent::new(88, || 7u64));
+    let number = unsafe { label_open([3, 3].as_ptr(), 2, [1; 9].as_ptr(), 9, words.pointer(), room, record.pointer(), 88) };
     t.add("refused calls", format!("a record of 88 words: ours {number}, the Rust has none:"), 1);
     if number != 100 || !words.stands() || !record.stands() {
         t.differs(|| format!("a record of 88 words: ours returns {number}, and should return 100 and write nothing"));

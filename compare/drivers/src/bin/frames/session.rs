@@ -1,12 +1,12 @@
 //! Sessions: a frame fed in pieces, with readings and size calls between, refused calls among them. The Rust labels the frame as far as it was
 //! fed, its other lines zero.
 
-use crate::one::Fault;
+use crate::one::{Fault, spoil_size};
 use crate::ours::{ANSWER, Fed, Reads, label_open, label_record_words, label_sizes};
-use drivers::frames::{below, cells, lines, make_lopsided, shape, size, structure};
+use drivers::frames::{below, cells, lines, make_lopsided, one_of, shape, size, structure};
 use drivers::kinds::Cell;
 use drivers::lent::Lent;
-use drivers::plain::{Did, Runs, left_byte, runs, words_differ, words_needed};
+use drivers::plain::{Did, PARENT, Runs, SIZE, left_byte, run_word, runs, words_differ, words_needed};
 use drivers::random::Random;
 use drivers::tally::Tally;
 
@@ -93,6 +93,7 @@ impl Session {
             Fault::Cells => answer.now_mut()[3] ^= 1,
             Fault::Refusal => number = if number == 0 { 10 } else { 0 },
             Fault::Word => *self.words.now_mut().last_mut().expect("a word") ^= 1,
+            Fault::Size => spoil_size(self.words.now_mut(), self.lines),
             Fault::Edge => unsafe { *self.record.pointer().add(self.record.len()) ^= 1 },
             Fault::No | Fault::Label => {}
         }
@@ -214,6 +215,29 @@ impl Session {
         self.refused(r, record, ANSWER, 6)
     }
 
+    /// Calls on words whose roots' sizes do not add up to the total, or do so only modulo 2^32.
+    fn damaged_sizes(&mut self, r: &mut Random) -> Held {
+        let place = |run: usize, i: usize| run_word(self.lines, run, i);
+        let roots: Vec<usize> = (0..self.runs.at.len()).filter(|&run| self.words.now()[place(run, PARENT)] as usize == run).collect();
+        if roots.is_empty() {
+            return Ok(());
+        }
+        let [a, b] = [0; 2].map(|_| place(one_of(r, &roots), SIZE));
+        let before = self.words.now().to_vec();
+        let words = self.words.now_mut();
+        if a != b && below(r, 2) == 0 {
+            words[a] ^= 1 << 31;
+            words[b] ^= 1 << 31;
+        } else {
+            words[a] = words[a].wrapping_add(1 + below(r, u32::MAX as usize) as u32);
+        }
+        self.words.keep();
+        let held = self.refused(r, self.record.now().to_vec(), ANSWER, 6);
+        self.words.now_mut().copy_from_slice(&before);
+        self.words.keep();
+        held
+    }
+
     /// A reading, a feed and a size call on such a record, with an answer of so many words: each returns `want`, and nothing is written.
     fn refused(&mut self, r: &mut Random, record: Vec<u64>, places: usize, want: u32) -> Held {
         let mut record = Lent::of(&record, 7);
@@ -236,7 +260,7 @@ impl Session {
     }
 
     fn call(&mut self, r: &mut Random) -> (&'static str, Held) {
-        match below(r, 15) {
+        match below(r, 16) {
             0 | 1 => ("feed u8", self.feed::<u8>(r)),
             2 => ("feed u16", self.feed::<u16>(r)),
             3 => ("feed i16", self.feed::<i16>(r)),
@@ -246,6 +270,7 @@ impl Session {
             9 | 10 => ("read u32", self.read::<u32>(r)),
             11 => ("damaged", self.damaged(r)),
             12 => ("lopsided record", self.lopsided(r)),
+            13 => ("damaged sizes", self.damaged_sizes(r)),
             _ => ("sizes", self.sizes(r)),
         }
     }

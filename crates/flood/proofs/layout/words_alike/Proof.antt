@@ -9,7 +9,7 @@ abbrev Inv-loop : tie.InvT-loop
 Inv-loop a b alike₀ i₀ alike i = Unit {0}
 
 abbrev μ-loop : tie.MeasureT-loop
-μ-loop a b alike₀ i₀ alike i = 3201 - i
+μ-loop a b alike₀ i₀ alike i = 3841 - i
 
 loop-holds : tie.Need-loop-holds Inv-loop μ-loop
 loop-holds c = tt

@@ -49,7 +49,7 @@ use denote.Triple.Walked.{says, needs, Stays, stay-ref, stay-none, walkOf, goes-
 use denote.Exit.{yes}
 use denote.Signature.{Slot, plain, namedLft}
 use denote.Signature.Struct.{makes}
-use Rattle.forest.specs.Unions.{Parents, Unites}
+use Rattle.forest.specs.Unions.{Sized, Unites}
 use Rattle.forest.specs.declared.Uf.{Uf}
 use Rattle.forest.proofs.Uf as T
 use Rattle.forest.proofs.Uf.Laws as T′
@@ -92,7 +92,7 @@ module _ {M : Type 1} (𝓤 : URA M) (H : Heap 𝓤) (A : Atoms 𝓤) (W : Given
 
   -- what the function requires, and what the callee ensures of the result and the last list
   abbrev Pre : Type 0
-  Pre = Parents ys (suc (max i j))
+  Pre = Sized ys (suc (max i j))
 
   abbrev Did : Bool → List ℕ → Type 0
   Did r zs = Unites ys zs i j r
@@ -219,7 +219,7 @@ module _ {M : Type 1} (𝓤 : URA M) (H : Heap 𝓤) (A : Atoms 𝓤) (W : Given
   walks C Λ fm known = walked 𝓤 H A this.ended stayed (this.clauses 𝓤 H A mem run) (WpFn 𝓤 H C Λ code.function)
       (λ κs. (ptr-vals, (uint-vals w64, (uint-vals w64, tt))))
       (λ κs. (mut-tells (named 0) (κs .0) (T.the-row (namedLft 2 1 tt κs)), (uint-tells w64, (uint-tells w64, tt))))
-      (λ κs qs bounds a g are. needs 𝓤 (Parents (a .0 .now .p .now) (suc (max (a .1 .0) (a .1 .1 .0)))) _
+      (λ κs qs bounds a g are. needs 𝓤 (Sized (a .0 .now .p .now) (suc (max (a .1 .0) (a .1 .1 .0)))) _
       (walk 𝓤 H A W mem run (κs .0) (κs .1 .0) bounds (qs .0) (qs .1 .0) (a .0 .ptr .0) (a .0 .ptr .1) (a .0 .name) (a .0 .now .p .ptr .0)
       (a .0 .now .p .ptr .1) (a .0 .now .p .name) (a .0 .now .p .now) (a .1 .0) (a .1 .1 .0) (are .1 .0 .1) (are .1 .1 .0 .1) C Λ fm known))
 

@@ -9,7 +9,7 @@ abbrev Inv-loop : tie.InvT-loop
 Inv-loop session e words n state₀ d₀ state d = Unit {0}
 
 abbrev μ-loop : tie.MeasureT-loop
-μ-loop session e words n state₀ d₀ state d = 29 - d
+μ-loop session e words n state₀ d₀ state d = 37 - d
 
 loop-holds : tie.Need-loop-holds Inv-loop μ-loop
 loop-holds c = tt
