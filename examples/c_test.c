@@ -1,6 +1,6 @@
 /* Tests of the C interface itself: refusals with their numbers and with nothing written, empty slices, words past a record and an
- * answer, sizes after each line and in damaged words, and each kind on one small frame. It prints how many checks there were, and each
- * that failed. */
+ * answer, sizes after each line and in damaged words, structure changes with all that they write, and each kind on one small frame. It
+ * prints how many checks there were, and each that failed. */
 #include "../include/label.h"
 
 #include <stdio.h>
@@ -8,12 +8,16 @@
 
 enum { W = 3, L = 3, STRIDE = 5, WORDS = L + 1 + STRIDE * L * 2, RECORD = LABEL_RECORD_WORDS, ANSWER = LABEL_ANSWER_WORDS };
 
-/* Where a run's fifth word is: its group's cell count, if the run is a root. */
+/* Where a run's parent is, and its fifth word: its group's cell count, if the run is a root. */
+#define PARENT(run) (L + 1 + STRIDE * (run) + 2)
 #define SIZE(run) (L + 1 + STRIDE * (run) + 4)
 
 static const size_t shape[2] = {L, W};
 static const uint8_t cross[9] = {0, 1, 0, 1, 1, 1, 0, 1, 0}, lopsided[9] = {0, 1, 0, 1, 1, 1, 0, 0, 0};
+static const uint8_t nine_ones[9] = {1, 1, 1, 1, 1, 1, 1, 1, 1};
 static const uint8_t cells[L * W] = {1, 0, 1, 1, 0, 1, 1, 1, 1};
+/* Each run touches the next at a corner alone. */
+static const uint8_t corners[L * W] = {1, 0, 0, 0, 1, 0, 0, 0, 1};
 
 static int checks, failures;
 
@@ -49,6 +53,11 @@ static uint32_t open_session(struct session *s)
 static uint32_t feed(struct session *s, size_t k, size_t from, size_t count)
 {
     return label_feed_u8(s->record, RECORD, s->words, WORDS, k, cells + from, count, s->answer, ANSWER);
+}
+
+static uint32_t widen(struct session *s, const uint8_t *structure, size_t bytes)
+{
+    return label_widen(s->record, RECORD, s->words, WORDS, structure, bytes, s->answer, ANSWER);
 }
 
 static int same(const struct session *a, const struct session *b)
@@ -132,7 +141,7 @@ static void open_two_lines(struct session *s)
     CHECK(s->words[SIZE(0)] == 2 && s->words[SIZE(1)] == 2);
 }
 
-/* A feed of nothing, a reading and a size call, all with this result; a refusal changes nothing. */
+/* A feed of nothing, a reading and a size call, all with this result, and a structure change if it is a refusal, which changes nothing. */
 static void check_calls(struct session *s, uint32_t result)
 {
     struct session before = *s;
@@ -142,6 +151,7 @@ static void check_calls(struct session *s, uint32_t result)
     CHECK(feed(s, 0, 0, 0) == result);
     CHECK(label_read_u8(s->record, RECORD, s->words, WORDS, out, L * W, s->answer, ANSWER) == result);
     CHECK(label_sizes(s->record, RECORD, s->words, WORDS, sizes, 2, s->answer, ANSWER) == result);
+    CHECK(result == LABEL_OK || widen(s, nine_ones, 9) == result);
     CHECK(result == LABEL_OK || (same(s, &before) && out[0] == 77 && sizes[0] == 77 && sizes[1] == 77));
     CHECK(result != LABEL_OK || (sizes[0] == s->words[SIZE(0)] && sizes[1] == s->words[SIZE(1)]));
 }
@@ -205,6 +215,117 @@ static void test_refusals(void)
     CHECK(same(&s, &before));
 }
 
+/* Two lines of corners fed under the cross, and read, so that both runs have names. */
+static void open_corners(struct session *s)
+{
+    uint8_t out[L * W];
+
+    CHECK(open_session(s) == LABEL_OK);
+    CHECK(label_feed_u8(s->record, RECORD, s->words, WORDS, 2, corners, 2 * W, s->answer, ANSWER) == LABEL_OK);
+    CHECK(label_read_u8(s->record, RECORD, s->words, WORDS, out, L * W, s->answer, ANSWER) == LABEL_OK);
+    CHECK(s->answer[0] == 2 && out[0] == 1 && out[W + 1] == 2);
+}
+
+/* Structure changes that are refused, each with its number, and nothing is written. */
+static void test_widen_refused(void)
+{
+    static const uint8_t no_left[9] = {1, 1, 1, 0, 1, 0, 1, 1, 1}, no_arm[9] = {1, 0, 1, 1, 1, 1, 1, 0, 1};
+    static const uint8_t no_centre[9] = {1, 1, 1, 1, 0, 1, 1, 1, 1}, ten[10] = {1, 1, 1, 1, 1, 1, 1, 1, 1, 1};
+    static const size_t one_line[2] = {1, W};
+    struct session s, before;
+
+    open_corners(&s);
+    before = s;
+    CHECK(label_widen(s.record, RECORD - 1, s.words, WORDS, nine_ones, 9, s.answer, ANSWER) == LABEL_SHORT);
+    CHECK(label_widen(s.record, RECORD, s.words, WORDS, nine_ones, 9, s.answer, ANSWER - 1) == LABEL_SHORT);
+    CHECK(label_widen(s.record, RECORD, NULL, 0, nine_ones, 8, NULL, 0) == LABEL_SHORT);
+    CHECK(label_widen(NULL, 0, NULL, 0, NULL, 0, NULL, 0) == LABEL_SHORT);
+    CHECK(label_widen(s.record, RECORD, s.words, WORDS - 1, nine_ones, 9, s.answer, ANSWER) == LABEL_UNSOUND);
+    CHECK(label_widen(s.record, RECORD, NULL, 0, NULL, 0, s.answer, ANSWER) == LABEL_UNSOUND);
+    CHECK(widen(&s, nine_ones, 8) == LABEL_STRUCTURE_LENGTH);
+    CHECK(widen(&s, ten, 10) == LABEL_STRUCTURE_LENGTH);
+    CHECK(widen(&s, NULL, 0) == LABEL_STRUCTURE_LENGTH);
+    CHECK(widen(&s, lopsided, 8) == LABEL_STRUCTURE_LENGTH);
+    CHECK(widen(&s, lopsided, 9) == LABEL_LOPSIDED);
+    CHECK(widen(&s, no_left, 9) == LABEL_NOT_WIDER);
+    CHECK(widen(&s, no_arm, 9) == LABEL_NOT_WIDER);
+    CHECK(widen(&s, no_centre, 9) == LABEL_NOT_WIDER);
+    CHECK(same(&s, &before));
+    /* A left byte that comes is refused as one that goes is. */
+    fill(&s);
+    CHECK(label_open(one_line, 2, no_left, 9, s.words, WORDS, s.record, RECORD) == LABEL_OK);
+    before = s;
+    CHECK(widen(&s, nine_ones, 9) == LABEL_NOT_WIDER && same(&s, &before));
+}
+
+/* What an accepted structure change may write: the answer's first words, the record's structure and joins, and of the words the parents and
+ * fifth words of the stored runs. All else is as it was. */
+static void check_widened(const struct session *before, const struct session *s, const uint8_t *structure, uint64_t joins)
+{
+    struct session want = *before;
+    size_t i, runs = (size_t)before->record[87];
+
+    for (i = 0; i < 81; i++)
+        want.record[5 + i] = i < 9 ? structure[i] : 0;
+    want.record[88] = joins;
+    memcpy(want.answer, want.record + 86, 4 * sizeof want.answer[0]);
+    for (i = 0; i < runs; i++) {
+        want.words[PARENT(i)] = s->words[PARENT(i)];
+        want.words[SIZE(i)] = s->words[SIZE(i)];
+        CHECK(s->words[PARENT(i)] <= i);
+    }
+    CHECK(same(s, &want));
+}
+
+/* A session that goes on: the cross parts what nine ones join, then another line is fed, and the values of the bytes change once more. */
+static void test_widen(void)
+{
+    static const uint8_t others[9] = {255, 1, 2, 3, 4, 5, 6, 7, 1};
+    struct session s, before;
+    uint8_t out[L * W];
+    uint32_t size = 0;
+
+    open_corners(&s);
+    before = s;
+    CHECK(widen(&s, nine_ones, 9) == LABEL_OK);
+    check_widened(&before, &s, nine_ones, 1);
+    CHECK(s.answer[0] == 2 && s.answer[1] == 2 && s.answer[2] == 1 && s.answer[3] == 2);
+    CHECK(s.words[PARENT(0)] == 0 && s.words[PARENT(1)] == 0 && s.words[SIZE(0)] == 2);
+    CHECK(label_feed_u8(s.record, RECORD, s.words, WORDS, 1, corners + 2 * W, W, s.answer, ANSWER) == LABEL_OK);
+    CHECK(s.answer[0] == 3 && s.answer[1] == 3 && s.answer[2] == 2 && s.answer[3] == 3);
+    before = s;
+    CHECK(widen(&s, others, 9) == LABEL_OK);
+    check_widened(&before, &s, others, 2);
+    before = s;
+    CHECK(widen(&s, cross, 9) == LABEL_NOT_WIDER && same(&s, &before));
+    CHECK(label_sizes(s.record, RECORD, s.words, WORDS, &size, 1, s.answer, ANSWER) == LABEL_OK && size == 3);
+    CHECK(label_read_u8(s.record, RECORD, s.words, WORDS, out, L * W, s.answer, ANSWER) == LABEL_OK);
+    CHECK(s.answer[0] == 1 && memcmp(out, corners, sizeof out) == 0);
+}
+
+/* Before the first line nothing but the record and the answer is written. A grouping of another origin is dropped, under any structure. */
+static void test_widen_held(void)
+{
+    struct session s, before;
+
+    CHECK(open_session(&s) == LABEL_OK);
+    before = s;
+    CHECK(widen(&s, nine_ones, 9) == LABEL_OK);
+    check_widened(&before, &s, nine_ones, 0);
+    CHECK(label_feed_u8(s.record, RECORD, s.words, WORDS, L, corners, L * W, s.answer, ANSWER) == LABEL_OK);
+    CHECK(s.answer[0] == 3 && s.answer[1] == 3 && s.answer[2] == 2);
+    open_two_lines(&s);
+    s.words[PARENT(1)] = 0;
+    s.words[SIZE(0)] = 4;
+    s.record[88] = 3;
+    CHECK(feed(&s, 0, 0, 0) == LABEL_OK && s.answer[2] == 3);
+    before = s;
+    CHECK(widen(&s, cross, 9) == LABEL_OK);
+    check_widened(&before, &s, cross, 2);
+    CHECK(s.words[SIZE(0)] == 2 && s.words[SIZE(1)] == 2 && s.words[PARENT(1)] == 1);
+    CHECK(s.words[PARENT(2)] == 0 && s.words[PARENT(3)] == 1);
+}
+
 /* Every word of the record set to what no record has, in turn: always 6, and nothing is written. */
 static void test_damage(void)
 {
@@ -225,6 +346,7 @@ static void test_damage(void)
         CHECK(feed(&s, 0, 0, 0) == LABEL_UNSOUND);
         CHECK(label_read_u8(s.record, RECORD, s.words, WORDS, out, L * W, s.answer, ANSWER) == LABEL_UNSOUND);
         CHECK(label_sizes(s.record, RECORD, s.words, WORDS, sizes, 2, s.answer, ANSWER) == LABEL_UNSOUND);
+        CHECK(widen(&s, nine_ones, 9) == LABEL_UNSOUND);
         CHECK(same(&s, &before));
     }
     /* A structure word of 256 is none of a byte's, and is not cut to 0; a rank of 5 is none of a record's. */
@@ -378,6 +500,9 @@ int main(void)
     test_session();
     test_size_words();
     test_refusals();
+    test_widen_refused();
+    test_widen();
+    test_widen_held();
     test_damage();
     KINDS(FRAME);
     KINDS(SESSION);

@@ -9,7 +9,7 @@
 enum { SIDE = 64, CELLS = SIDE * SIDE, WORDS = SIDE + 1 + 5 * SIDE * SIDE, STACK = 1 << 16 };
 
 static const size_t flat[2] = {SIDE, SIDE}, deep[4] = {4, 4, 4, SIDE};
-static uint8_t ones[81], left_zero[9] = {1, 1, 1, 0, 1, 1, 1, 1, 1};
+static uint8_t ones[81], left_zero[9] = {1, 1, 1, 0, 1, 0, 1, 1, 1};
 static uint32_t words[WORDS], out32[CELLS], sizes[CELLS];
 static uint64_t record[LABEL_RECORD_WORDS], answer[LABEL_ANSWER_WORDS];
 static uint8_t cells8[CELLS], out8[CELLS];
@@ -32,6 +32,8 @@ static void feed_u8(void) { result = label_feed_u8(WITH, SIDE, cells8, CELLS, AN
 static void feed_u16(void) { result = label_feed_u16(WITH, SIDE, cells16, CELLS, ANSWER); }
 static void feed_i16(void) { result = label_feed_i16(WITH, SIDE, cellsi, CELLS, ANSWER); }
 static void feed_f32(void) { result = label_feed_f32(WITH, SIDE, cellsf, CELLS, ANSWER); }
+static void widen(void) { result = label_widen(WITH, ones, 9, ANSWER); }
+static void widen_deep(void) { result = label_widen(WITH, ones, 81, ANSWER); }
 static void read_u8(void) { result = label_read_u8(WITH, out8, CELLS, ANSWER); }
 static void read_u16(void) { result = label_read_u16(WITH, out16, CELLS, ANSWER); }
 static void read_u32(void) { result = label_read_u32(WITH, out32, CELLS, ANSWER); }
@@ -85,6 +87,7 @@ int main(void)
     }
     measure("label_open", open_flat);
     measure("label_feed_u8", feed_u8);
+    measure("label_widen", widen);
     measure("label_read_u8", read_u8);
     measure("label_read_u16", read_u16);
     measure("label_read_u32", read_u32);
@@ -99,6 +102,7 @@ int main(void)
     measure("left byte zero", feed_u8);
     measure("label_open, 4", open_deep);
     measure("rank 4, feed", feed_u8);
+    measure("rank 4, widen", widen_deep);
     measure("frame_u8_u8", frame_u8_u8);
     measure("frame_u8_u32", frame_u8_u32);
     measure("frame_u16_u16", frame_u16_u16);

@@ -1,8 +1,8 @@
 /* Connected-component labelling of frames of rank 1 to 4: the C interface of the library liblabel_c.a.
  *
  * A frame is scanned line by line: label_open, then label_feed_T for the lines as they come, label_read_T for the number of each
- * cell and label_sizes for the cells of each number, as often as wanted and between feeds too. label_frame_C_N does all of it in one call.
- * docs/C.md says more, with the memory and the stack that is needed.
+ * cell and label_sizes for the cells of each number, as often as wanted and between feeds too. label_widen lets a scan go on with more
+ * neighbours. label_frame_C_N labels a whole frame in one call. docs/C.md says more, with the memory and the stack that is needed.
  *
  * Every call may be given any values: a call that cannot be done returns a number above 0 (enum label_result) and says here what it
  * left as it was. Nothing is read or written beyond the counts. The caller answers for this alone:
@@ -34,6 +34,7 @@ enum label_result {
     LABEL_LENGTH = 9,            /* the output has not lines x width places, or the sizes not n */
     LABEL_KIND = 10,             /* n is above the largest number that the output's kind holds */
     LABEL_LOPSIDED = 12,         /* bytes i and 3^rank - 1 - i of the structure are not both zero or both nonzero, for some i */
+    LABEL_NOT_WIDER = 19,        /* the left bytes differ in being zero, or a byte nonzero in the old structure is zero in the new */
     LABEL_SHORT = 100            /* the record has fewer than LABEL_RECORD_WORDS words, or the answer fewer than LABEL_ANSWER_WORDS */
 };
 
@@ -91,6 +92,18 @@ uint32_t label_feed_f32(uint64_t *record, size_t record_words,
                         uint32_t *words, size_t word_count,
                         size_t k, const float *cells, size_t cell_count,
                         uint64_t *answer, size_t answer_words);
+
+/* Goes on under a wider structure: the stored lines are united again under it, from the first line, whatever grouping the words held. From
+ * then on the session answers as if it had been opened with this structure.
+ * Takes the new structure, as label_open does. A byte that is nonzero in the old one, the centre's too, must be nonzero in the new one, and
+ * the left byte zero in both or in neither: so the runs, and the words needed, stay as they are.
+ * Accepted: the answer as of a feed, its joins counted from the first line. The record is written, and of the words the parents and sizes
+ * of the stored runs; names stand. Feeds may follow.
+ * Returns 0, 100, 6, 2, 12 or 19, looked for in this order; unless it is 0, nothing is written. */
+uint32_t label_widen(uint64_t *record, size_t record_words,
+                     uint32_t *words, size_t word_count,
+                     const uint8_t *structure, size_t structure_bytes,
+                     uint64_t *answer, size_t answer_words);
 
 /* Writes each cell's number to `out`, which has lines x width places: 0 for a zero cell and for a line not yet fed, else its group's
  * number. Groups are numbered 1 to n by their first cells in C order.

@@ -73,6 +73,35 @@ pub fn make_lopsided(r: &mut Random, s: &mut [u8]) {
     s[at] = if s[at] == 0 { nonzero(r) } else { 0 };
 }
 
+/// A symmetric structure that may follow `s`, which is symmetric: with more pairs set, or the centre, none of them the left byte's. In half
+/// of them the bytes that are set have other values.
+pub fn wider(r: &mut Random, s: &[u8]) -> Vec<u8> {
+    let (middle, last) = (s.len() / 2, s.len() - 1);
+    let percent = one_of(r, &[0, 10, 50, 100]);
+    let mut new = s.to_vec();
+    for k in (0..=middle).filter(|&k| k + 1 != middle) {
+        if new[k] == 0 && r.next() % 100 < percent {
+            (new[k], new[last - k]) = (1, 1);
+        }
+    }
+    if below(r, 2) == 0 {
+        for b in new.iter_mut().filter(|b| **b != 0) {
+            *b = nonzero(r);
+        }
+    }
+    new
+}
+
+/// Makes a symmetric structure one that may not follow `s`: a pair that `s` has, or its centre, is cleared, or the left byte's comes or
+/// goes.
+pub fn make_narrower(r: &mut Random, s: &[u8], new: &mut [u8]) {
+    let (middle, last) = (s.len() / 2, s.len() - 1);
+    let set: Vec<usize> = (0..=middle).filter(|&k| s[k] != 0).collect();
+    let k = if set.is_empty() || below(r, 3) == 0 { middle - 1 } else { one_of(r, &set) };
+    let value = if new[k] == 0 { nonzero(r) } else { 0 };
+    (new[k], new[last - k]) = (value, value);
+}
+
 /// SciPy's default: the offsets with at most one coordinate that is not 0.
 pub fn cross(rank: usize) -> Vec<u8> {
     (0..3usize.pow(rank as u32))

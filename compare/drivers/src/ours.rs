@@ -64,6 +64,16 @@ read!(label_read_u8 u8, label_read_u16 u16, label_read_u32 u32);
 unsafe extern "C" {
     pub fn label_record_words() -> u64;
     pub fn label_open(shape: *const usize, rank: usize, structure: *const u8, bytes: usize, words: *mut u32, room: usize, record: *mut u64, length: usize) -> u32;
+    pub fn label_widen(
+        record: *mut u64,
+        length: usize,
+        words: *mut u32,
+        room: usize,
+        structure: *const u8,
+        bytes: usize,
+        answer: *mut u64,
+        count: usize,
+    ) -> u32;
     pub fn label_sizes(record: *const u64, length: usize, words: *mut u32, room: usize, sizes: *mut u32, places: usize, answer: *mut u64, count: usize) -> u32;
 }
 

@@ -1,5 +1,6 @@
 //! The documents' definitions that need no labelling: the words needed, the runs, and what the words hold after a call.
 
+use crate::frames::symmetric;
 use std::collections::HashMap;
 
 /// Each run has STRIDE words. Counted from its first, which holds its start, END holds its end (one past), PARENT its parent, NAME its name
@@ -24,6 +25,18 @@ pub fn words_needed(shape: &[usize], structure: &[u8]) -> usize {
     let lines: usize = shape[..shape.len() - 1].iter().product();
     let h = if left_byte(structure) { w.div_ceil(2) } else { w };
     lines + 1 + STRIDE * lines * h
+}
+
+/// What a structure change returns, of a structure that is held and of the new one: 2, 12, 19 or 0.
+pub fn change_number(old: &[u8], new: &[u8]) -> u32 {
+    if new.len() != old.len() {
+        return 2;
+    }
+    if !symmetric(new) {
+        return 12;
+    }
+    let dropped = old.iter().zip(new).any(|(&o, &n)| o != 0 && n == 0);
+    if left_byte(old) != left_byte(new) || dropped { 19 } else { 0 }
 }
 
 /// The runs of the lines fed, in order, and the count of runs before each line.

@@ -10,14 +10,15 @@ use lib.Dec.{leb, ltb}
 use lib.ListN.{length, getD, take, drop, replicate, List·getD-eq-default}
 use lib.Seq.{length-take-le}
 use Rattle.frame.specs.Kinds.{Cells, flags, Number, u32}
-use Rattle.frame.specs.Plain.{zeroFigures, Call, feed, read, sizes, Answer, nothing, numbers, counts, Answered}
+use Rattle.frame.specs.Plain.{zeroFigures, Call, feed, read, sizes, widen, Answer, nothing, numbers, counts, Answered}
 use Rattle.label.specs.declared.Session.{Session}
 use Rattle.label.specs.Feeding.{FeedPromise}
+use Rattle.label.specs.Widening.{WidenPromise}
 use Rattle.label.specs.Reading.{ReadPromise, SizesPromise}
-use Rattle.calls.specs.Trace.{Trace, by-feed, by-read, by-sizes}
+use Rattle.calls.specs.Trace.{Trace, by-feed, by-read, by-sizes, by-widen}
 use Rattle.caller.specs.declared.Four.{Four}
-use Rattle.caller.specs.CallList.{Lent, Entry, call, no-call, feedEntry, held, readEntry, sizesEntry, entryOf, callsOf, noCall}
-use Rattle.caller.specs.CallList.{eightNumbers, answerNumbers, numbersOf, woven}
+use Rattle.caller.specs.CallList.{Lent, Entry, call, no-call, feedEntry, held, readEntry, sizesEntry, widenEntry, entryOf, callsOf}
+use Rattle.caller.specs.CallList.{noCall, eightNumbers, answerNumbers, numbersOf, woven}
 use Rattle.frame.specs.Overlay.{overlay, Adds}
 use Rattle.caller.specs.Rooms.{Rooms, leaves, roomsAfter}
 use Rattle.caller.specs.Making.{Standing, Steps, FeedOf, Feeds}
@@ -58,6 +59,12 @@ module _ {s s′ : Session} {ws ws′ : List ℕ} {a : Answer} {buf : List ℕ} 
       → Steps (call (feed k cells)) (stand s ws rooms buf i) (stand s′ ws′ rooms buf′ j)
   step-feed cells P rooms =
       step-call {a = record { said = a; written = nothing }} (λ cs az s″ ws″ T. by-feed {cells = cells} P T)
+      (unfold numbersOf in rw (append-nil (answerNumbers a)) A)
+
+  pub step-widen : {structure : List ℕ} → WidenPromise s ws structure a s′ ws′ → (rooms : Rooms)
+      → Steps (call (widen structure)) (stand s ws rooms buf i) (stand s′ ws′ rooms buf′ j)
+  step-widen P rooms =
+      step-call {a = record { said = a; written = nothing }} (λ cs az s″ ws″ T. by-widen P T)
       (unfold numbersOf in rw (append-nil (answerNumbers a)) A)
 
   module _ {buf″ : List ℕ} {l : ℕ} where
@@ -129,6 +136,21 @@ pub step-feeds : {entry : Entry} {s s′ : Session} {ws ws′ : List ℕ} {a : A
     (stand s′ ws′ rooms buf′ j)
 step-feeds F A rooms = steps-as (F .is-feed) (step-feed A (F .cells) (F .made) rooms)
 
+-- ---- four numbers that are a structure change, or no call
+
+module _ (cells : List ℕ) (from count : ℕ) {b m : Standing} where
+  pub widen-out : leb (from + count) (length cells) ≡ false → Steps no-call b m → Steps (widenEntry cells from count) b m
+  unfolding widenEntry
+  widen-out e S = rw e S
+
+  -- the bytes end at `end`
+  pub widen-in : {end : ℕ} → end ≡ from + count → end ≤ length cells → Steps (call (widen (take (end - from) (drop from cells)))) b m
+      → Steps (widenEntry cells from count) b m
+  unfolding widenEntry
+  widen-in {end} e h S =
+      let n : end - from ≡ count = omega arith in
+      rw (le-leb (from + count) (length cells) (omega arith)) (subst (λ (k : ℕ). Steps (call (widen (take k (drop from cells)))) b m) n S)
+
 -- ---- four numbers that are a reading or a size call, or no call
 
 -- rooms that are the same
@@ -172,7 +194,7 @@ module _ (l : Lent) (a b c : ℕ) {before after : Standing} (code : ℕ) where
   pub entry-is : (key : ℕ) → code ≡ key → Steps (entryOf l key a b c) before after → Steps (entryOf l code a b c) before after
   entry-is key e S = subst (λ (k : ℕ). Steps (entryOf l k a b c) before after) (sym e) S
 
-  pub entry-none : 8 ≤ code → Steps no-call before after → Steps (entryOf l code a b c) before after
+  pub entry-none : 9 ≤ code → Steps no-call before after → Steps (entryOf l code a b c) before after
   unfolding entryOf
   entry-none h S = rw (List·getD-eq-default _ no-call h) S
 

@@ -10,7 +10,8 @@ use lib.ListN.{length, getD, take, drop, replicate}
 use Rattle.frame.specs.Kinds.{Cells, u8s, u16s, i16s, f32s, Number, u8, u16, u32}
 use Rattle.frame.specs.declared.Figures.{Figures}
 use Rattle.frame.specs.Plain.{zeroFigures}
-use Rattle.frame.specs.Plain.{Call, feed, read, sizes, Answer, fed, counted, refused, Written, nothing, numbers, counts, Answered}
+use Rattle.frame.specs.Plain.{Call, feed, read, sizes, widen, Answer, fed, counted, refused, Written, nothing, numbers, counts}
+use Rattle.frame.specs.Plain.{Answered}
 
 -- ---- calls
 
@@ -46,7 +47,11 @@ readEntry kind room a b = cond (leb a room) (call (read kind (replicate a (held 
 unfoldable pub sizesEntry : ℕ → ℕ → ℕ → Entry
 sizesEntry room a b = cond (leb a room) (call (sizes (replicate a (held u32 b)))) no-call
 
--- (code, a, b, c): codes 0 to 3 feed, 4 to 6 read, 7 is the size call, and another code is no call
+-- a structure change, whose bytes are the c entries from place b on of the u8 cells. A part beyond them is no call
+unfoldable pub widenEntry : List ℕ → ℕ → ℕ → Entry
+widenEntry cells b c = cond (leb (b + c) (length cells)) (call (widen (take c (drop b cells)))) no-call
+
+-- (code, a, b, c): codes 0 to 3 feed, 4 to 6 read, 7 is the size call, 8 the structure change, and another code is no call
 unfoldable pub entryOf : Lent → ℕ → ℕ → ℕ → ℕ → Entry
 entryOf l code a b c =
     getD (feedEntry u8s (l .u8s) a b c
@@ -57,6 +62,7 @@ entryOf l code a b c =
     ∷ readEntry u16 (l .room16) a b
     ∷ readEntry u32 (l .room32) a b
     ∷ sizesEntry (l .room32) a b
+    ∷ widenEntry (l .u8s) b c
     ∷ []) code no-call
 
 -- one to three numbers left over at the end are no call

@@ -11,7 +11,7 @@ ghost use lib.ListN.{length, getD, replicate};
 ghost use Rattle.frame.specs.Kinds.{u8, u16, u32};
 ghost use Rattle.frame.specs.Plain.{zeroFigures, read, sizes, numbers, counts};
 ghost use Rattle.label.specs.Cases.{openNumber, feedAnswer, readAnswer};
-ghost use Rattle.caller.specs.CallList.{call, no-call, readEntry, sizesEntry, decode, eightNumbers, answerNumbers};
+ghost use Rattle.caller.specs.CallList.{call, no-call, readEntry, sizesEntry, widenEntry, decode, eightNumbers, answerNumbers};
 ghost use Rattle.frame.specs.Overlay.{Adds};
 ghost use Rattle.caller.specs.Rooms.{Rooms, leaves, roomsOf, roomsAtEntry, roomsAtExit, lentIn};
 ghost use Rattle.caller.specs.Making.{standing, fourAt, Performs, Steps, StepsIn, entryAt, filledWith, FeedOf, Feeds};
@@ -417,6 +417,26 @@ fn sizes_call(g: Going, words: &mut [u32], e: Four, room: &mut [u32], answers: &
     )
 }
 
+// Code 8: a structure change, if its bytes are a part of the u8 cells lent.
+fn widen_call(g: Going, words: &mut [u32], e: Four, u8s: &[u8], answers: &mut [u64]) -> Going
+    ensures { λ r. ⌜ ((rooms : Rooms)
+        → StepsIn (widenEntry (now (u8s .entry)) (e .b) (e .c)) g r words rooms rooms answers) ⌝ }
+{
+    if !is_part(e.b, e.c, u8s.len()) {
+        return no_call(g, answers);
+    }
+    let from = e.b;
+    let end = e.b + e.c;
+    let w = g.session.widen(words, &u8s[from..end]);
+    let answer = w.answer;
+    let next = put_fed(answers, g.at, answer);
+    let after = w.session;
+    Going {
+        session: after,
+        at: next,
+    }
+}
+
 // Four numbers of the list, by their code.
 fn make_call(
     g: Going,
@@ -443,6 +463,7 @@ fn make_call(
         5 => read_call_u16(g, words, e, out16, answers),
         6 => read_call_u32(g, words, e, out32, answers),
         7 => sizes_call(g, words, e, out32, answers),
+        8 => widen_call(g, words, e, u8s, answers),
         _ => no_call(g, answers),
     }
 }

@@ -9,7 +9,7 @@ use lib.IntN.{pos, negsuc}
 use lib.ListN.{replicate}
 use Rattle.frame.specs.Runs.{runOf}
 use Rattle.frame.specs.Kinds.{u16, u8s, u16s, i16s, f32s, nz, nzℤ, nzF, flags, u32, u8}
-use Rattle.frame.specs.Plain.{Call, feed, read, sizes, fed, counted, refused, nothing, numbers, counts, State}
+use Rattle.frame.specs.Plain.{Call, feed, read, sizes, widen, fed, counted, refused, nothing, numbers, counts, State}
 use Rattle.label.proofs.CallFunctions.{doOpen}
 use Rattle.label.proofs.MeetLaws.{open-met}
 use Rattle.label.proofs.Worked.{computed, frame, cross, memory, line, whole, f, begun, row}
@@ -29,6 +29,10 @@ calls =
     ∷ read u16 (replicate 8 5)
     ∷ read u16 (replicate 9 5)
     ∷ sizes (5 ∷ [])
+    -- structure changes: eight bytes, nine ones, the cross again
+    ∷ widen (replicate 8 1)
+    ∷ widen (replicate 9 1)
+    ∷ widen cross
     -- no lines
     ∷ feed 0 (f32s [])
     ∷ feed 1 (f32s (nan ∷ fin false 1 (pos 0) ∷ nan ∷ []))
@@ -48,6 +52,9 @@ answers-right : ran .answers ≡
     ∷ record { said = refused 9; written = numbers u16 (replicate 8 5) }
     ∷ record { said = counted 2 (f 4 2 4); written = numbers u16 (1 ∷ 0 ∷ 2 ∷ 1 ∷ 0 ∷ 2 ∷ 0 ∷ 0 ∷ 0 ∷ []) }
     ∷ record { said = refused 9; written = counts (5 ∷ []) }
+    ∷ record { said = refused 2; written = nothing }
+    ∷ record { said = fed 2 (f 4 2 4); written = nothing }
+    ∷ record { said = refused 19; written = nothing }
     ∷ record { said = fed 2 (f 4 2 4); written = nothing }
     ∷ record { said = fed 3 (f 5 4 7); written = nothing }
     ∷ record { said = counted 1 (f 5 4 7); written = counts (7 ∷ []) }

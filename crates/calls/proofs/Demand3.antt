@@ -15,8 +15,9 @@ use Rattle.calls.proofs.RightLaws.{plain-right}
 use Rattle.calls.proofs.AfterLaws.{afterwards, parents-grouped}
 
 -- "Take every list of feeds and readings, of any cell and number kinds, refused ones included, from an accepted opening": `calls` is any
--- list, and the opening answers 0. "Each call gets the record and memory as the call before it left them, the first as the opening did;
--- nobody else writes either meanwhile": `Trace`, from the record and the words that the opening left
+-- list, with size calls and document 02's structure changes, and the opening answers 0. "Each call gets the record and memory as the call
+-- before it left them, the first as the opening did; nobody else writes either meanwhile": `Trace`, from the record and the words that the
+-- opening left
 pub demand3 : (shape structure ws₀ : List ℕ) (number : ℕ) (s : Session) (ws : List ℕ) → OpenPromise shape structure ws₀ number s ws
     → number ≡ 0
     → (calls : List Call) (answers : List Answered) (s′ : Session) (ws′ : List ℕ) → Trace s ws calls answers s′ ws′ → Demand3 shape

@@ -3,11 +3,11 @@
 use mathlib.Core.List.{List, [], _∷_}
 use Prim.Native.Nat.{ℕ}
 use Rattle.frame.specs.Kinds.{flags}
-use Rattle.frame.specs.Plain.{Call, feed, read, sizes, nothing, numbers, counts, Answered}
+use Rattle.frame.specs.Plain.{Call, feed, read, sizes, widen, nothing, numbers, counts, Answered}
 use Rattle.label.specs.declared.Session.{Session}
-use Rattle.label.proofs.CallFunctions.{doFeed, doRead, doSizes}
-use Rattle.label.proofs.MeetLaws.{read-met, sizes-met, feed-met}
-use Rattle.calls.specs.Trace.{Trace, stop, by-feed, by-read, by-sizes}
+use Rattle.label.proofs.CallFunctions.{doFeed, doRead, doSizes, doWiden}
+use Rattle.label.proofs.MeetLaws.{read-met, sizes-met, feed-met, widen-met}
+use Rattle.calls.specs.Trace.{Trace, stop, by-feed, by-read, by-sizes, by-widen}
 
 -- the answers, and the record and the words afterwards
 pub record Ran : Type 0 where
@@ -30,6 +30,9 @@ doCalls s ws (read kind out ∷ cs) =
 doCalls s ws (sizes out ∷ cs) =
     let d = doSizes s ws out in
     then (record { said = d .said; written = counts (d .out) }) (doCalls s (d .words) cs)
+doCalls s ws (widen structure ∷ cs) =
+    let d = doWiden s ws structure in
+    then (record { said = d .said; written = nothing }) (doCalls (d .session) (d .words) cs)
 
 pub calls-met : (s : Session) (ws : List ℕ) (cs : List Call)
     → Trace s ws cs (doCalls s ws cs .answers) (doCalls s ws cs .session) (doCalls s ws cs .words)
@@ -38,3 +41,4 @@ calls-met s ws [] = stop
 calls-met s ws (feed k cells ∷ cs) = by-feed {cells = cells} (feed-met s ws k (flags cells)) (calls-met _ _ cs)
 calls-met s ws (read kind out ∷ cs) = by-read (read-met kind s ws out) (calls-met _ _ cs)
 calls-met s ws (sizes out ∷ cs) = by-sizes (sizes-met s ws out) (calls-met _ _ cs)
+calls-met s ws (widen structure ∷ cs) = by-widen (widen-met s ws structure) (calls-met _ _ cs)

@@ -2,10 +2,11 @@
 -- Assumes nothing.
 use mathlib.Core.Path.{_≡_, refl, sym, _∙_, subst}
 use mathlib.Core.List.{List, [], _∷_}
-use Prim.Native.Nat.{ℕ, _+_}
+use Prim.Native.Nat.{ℕ}
 use Rattle.frame.specs.Kinds.{flags}
-use Rattle.frame.specs.Plain.{Call, feed, read, sizes, fed, unless, State, feeds, groupsOf, figures, cause, answer, next, plain}
-use Rattle.frame.proofs.PlainLaws.{unless-cases, next-feeds, balanced, six-never}
+use Rattle.frame.specs.Plain.{Call, feed, read, sizes, widen, unless, State, feeds, widens, groupsOf, figures, cause, answer, changed, next}
+use Rattle.frame.specs.Plain.{plain}
+use Rattle.frame.proofs.PlainLaws.{unless-cases, next-accepted, balanced, six-never}
 use Rattle.calls.specs.Demand3.{Balanced, Right, AllRight}
 
 module _ (shape : List ℕ) where
@@ -13,13 +14,16 @@ module _ (shape : List ℕ) where
   unfolding figures groupsOf
   figures-right p = record { runs-defined = refl; balance = balanced shape p; total = refl }
 
+  -- an accepted call's answer is right of what the session then is
+  changed-right : (p : State) (c : Call) → Right shape (changed shape p c) (answer shape p c)
+  unfolding answer changed feeds widens groupsOf
+  changed-right p (feed k cells) = (refl, figures-right (feeds p k (flags cells)))
+  changed-right p (read kind out) = (refl, figures-right p)
+  changed-right p (sizes out) = (refl, figures-right p)
+  changed-right p (widen structure) = (refl, figures-right (widens p structure))
+
   answer-right : (p : State) (c : Call) → cause shape p c ≡ 0 → Right shape (next shape p c) (answer shape p c)
-  unfolding answer feeds groupsOf
-  answer-right p (feed k cells) e =
-      subst (λ (q : State). Right shape q (fed (p .fed + k) (figures shape (feeds p k (flags cells))))) (sym (next-feeds shape p k cells e))
-      (refl, figures-right (feeds p k (flags cells)))
-  answer-right p (read kind out) e = unfold next in (refl, figures-right p)
-  answer-right p (sizes out) e = unfold next in (refl, figures-right p)
+  answer-right p c e = subst (λ (q : State). Right shape q (answer shape p c)) (sym (next-accepted shape p c e)) (changed-right p c)
 
   said-right : (p : State) (c : Call) → Right shape (next shape p c) (unless (cause shape p c) (answer shape p c))
   said-right p c = unless-cases (Right shape (next shape p c)) (cause shape p c) (answer shape p c) (answer-right p c)

@@ -4,13 +4,13 @@ use mathlib.Core.Path.{_≡_, refl, ap₂, _∙_}
 use mathlib.Core.List.{List, _∷_}
 use Prim.Native.Nat.{ℕ}
 use Rattle.frame.specs.Kinds.{flags}
-use Rattle.frame.specs.Plain.{Call, feed, read, sizes, Answered, State, plain, after}
+use Rattle.frame.specs.Plain.{Call, feed, read, sizes, widen, Answered, State, plain, after}
 use Rattle.label.specs.declared.Session.{Session}
 use Rattle.label.specs.Record.{shapeOf}
 use Rattle.label.proofs.Invariant.{stateOf, Inv}
-use Rattle.label.proofs.KeepLaws.{Follows, feed-follows, read-follows, sizes-follows}
-use Rattle.label.proofs.FitLaws.{Words32, feed-words-fit, read-words-fit, sizes-words-fit}
-use Rattle.calls.specs.Trace.{Trace, stop, by-feed, by-read, by-sizes}
+use Rattle.label.proofs.KeepLaws.{Follows, feed-follows, read-follows, sizes-follows, widen-follows}
+use Rattle.label.proofs.FitLaws.{Words32, feed-words-fit, read-words-fit, sizes-words-fit, widen-words-fit}
+use Rattle.calls.specs.Trace.{Trace, stop, by-feed, by-read, by-sizes, by-widen}
 
 pub record FollowsAll (s : Session) (ws : List ℕ) (cs : List Call) (az : List Answered) (s′ : Session) (ws′ : List ℕ) : Type 0 where
   pub same : az ≡ plain (shapeOf s) (stateOf s ws) cs
@@ -44,6 +44,9 @@ follows (by-sizes {s = s} {s′ = s′} {s″ = s″} {ws = ws} {ws′ = ws′} 
     I =
     let F = sizes-follows s ws I out a s′ ws′ out′ P in
     more s s′ s″ ws ws′ ws″ (sizes out) cs _ az F (follows T (F .keeps))
+follows (by-widen {s = s} {s′ = s′} {s″ = s″} {ws = ws} {ws′ = ws′} {ws″ = ws″} {structure = structure} {a = a} {cs = cs} {az = az} P T) I =
+    let F = widen-follows s ws I structure a s′ ws′ P in
+    more s s′ s″ ws ws′ ws″ (widen structure) cs _ az F (follows T (F .keeps))
 
 -- ---- words that are u32s stay so, whatever is called
 
@@ -56,3 +59,5 @@ trace-fits (by-read {s = s} {s′ = s′} {ws = ws} {ws′ = ws′} {kind = kind
     trace-fits T (read-words-fit kind s ws out a s′ ws′ out′ P fits)
 trace-fits (by-sizes {s = s} {s′ = s′} {ws = ws} {ws′ = ws′} {out = out} {out′ = out′} {a = a} P T) fits =
     trace-fits T (sizes-words-fit s ws out a s′ ws′ out′ P fits)
+trace-fits (by-widen {s = s} {s′ = s′} {ws = ws} {ws′ = ws′} {structure = structure} {a = a} P T) fits =
+    trace-fits T (widen-words-fit s ws structure a s′ ws′ P fits)

@@ -3,9 +3,10 @@
 use mathlib.Core.List.{List, [], _∷_}
 use Prim.Native.Nat.{ℕ}
 use Rattle.frame.specs.Kinds.{Cells, flags, Number, Value}
-use Rattle.frame.specs.Plain.{Call, feed, read, sizes, Answer, nothing, numbers, counts, Answered}
+use Rattle.frame.specs.Plain.{Call, feed, read, sizes, widen, Answer, nothing, numbers, counts, Answered}
 use Rattle.label.specs.declared.Session.{Session}
 use Rattle.label.specs.Feeding.{FeedPromise}
+use Rattle.label.specs.Widening.{WidenPromise}
 use Rattle.label.specs.Reading.{ReadPromise, SizesPromise}
 
 -- The calls lead from a record and words to a record and words, and are answered so. Of each call exactly what it promises is known,
@@ -25,3 +26,7 @@ pub data Trace : Session → List ℕ → List Call → List Answered → Sessio
       → SizesPromise s ws out a s′ ws′ out′
       → Trace s′ ws′ cs az s″ ws″
       → Trace s ws (sizes out ∷ cs) (record { said = a; written = counts out′ } ∷ az) s″ ws″
+  by-widen : {s s′ s″ : Session} {ws ws′ ws″ structure : List ℕ} {a : Answer} {cs : List Call} {az : List Answered}
+      → WidenPromise s ws structure a s′ ws′
+      → Trace s′ ws′ cs az s″ ws″
+      → Trace s ws (widen structure ∷ cs) (record { said = a; written = nothing } ∷ az) s″ ws″

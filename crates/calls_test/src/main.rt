@@ -13,10 +13,15 @@ use samples::tally;
 use trial::answers;
 use trial::answers::Answer;
 
-// Entries of the counts: lists stand at TRIED, and then calls; what is no call stands where refusal 11 would, which is of a text.
+// Entries of the counts: lists stand at TRIED, and then calls; what is no call stands where refusal 11 would, which is of a text. Of
+// accepted structure changes those before the first line and those after the last are counted too.
 const CALLS: usize = 4;
 
 const NO_CALLS: usize = 35;
+
+const EARLY: usize = 46;
+
+const LATE: usize = 47;
 
 // ---- the list, and what it should answer
 
@@ -96,7 +101,7 @@ fn say_output(
 // What a call should answer.
 fn answer_to(
     e: Extent,
-    structure: &[u8],
+    structure: &mut [u8],
     cells: &[u8; 640],
     frame: &mut [u8; 640],
     call: Call,
@@ -108,6 +113,9 @@ fn answer_to(
     }
     if call.code < 8 {
         return plain::read(call, plain::exact_places(e, call.code, count.n), count);
+    }
+    if call.code == 8 {
+        return plain::widen(e, structure, cells, frame, call, fed);
     }
     answers::refused(plain::NO_CALL)
 }
@@ -124,7 +132,7 @@ fn say_all(
     let accepted = answer.number == 0;
     let next = plus(now.at, 8);
     say(wanted, now.at, answer);
-    if call.code < 4 {
+    if (call.code < 4) | (call.code == 8) {
         let fed = if accepted { answer.count } else { now.fed };
         return Standing { fed, at: next };
     }
@@ -149,9 +157,20 @@ fn count_answer(state: &mut [u64; 48], number: usize) {
     tally::add(state, plus(tally::REFUSED, number));
 }
 
+// Counts a structure change with so many lines fed.
+fn count_change(state: &mut [u64; 48], e: Extent, fed: usize, number: usize) {
+    tally::add(state, tally::CHANGES);
+    if number != 0 {
+        return;
+    }
+    tally::add(state, tally::CHANGED);
+    tally::add(state, if fed == 0 { EARLY } else { tally::OTHER });
+    tally::add(state, if fed == e.lines { LATE } else { tally::OTHER });
+}
+
 fn one_call(
     e: Extent,
-    structure: &[u8],
+    structure: &mut [u8],
     cells: &[u8; 640],
     frame: &mut [u8; 640],
     list: &mut [usize; 256],
@@ -162,11 +181,14 @@ fn one_call(
 ) -> Standing {
     let mut marks = [0u32; 1920];
     let count = flood::number_cells(e, structure, frame, times(now.fed, e.width), &mut marks);
-    let call = plain::draw(e, now.fed, count.n, tally::random(state));
+    let call = plain::draw(e, structure.len(), now.fed, count.n, tally::random(state));
     put_call(list, i, call);
     let answer = answer_to(e, structure, cells, frame, call, count, now.fed);
     tally::add(state, CALLS);
     count_answer(state, answer.number);
+    if call.code == 8 {
+        count_change(state, e, now.fed, answer.number);
+    }
     say_all(e, call, answer, &marks, now, wanted)
 }
 
@@ -181,9 +203,11 @@ fn all_calls(
     state: &mut [u64; 48],
 ) -> usize {
     let mut frame = [0u8; 640];
+    let mut bytes = samples::padded(structure);
+    let under = samples::lend_u8(&mut bytes, structure.len());
     let mut now = Standing { fed: 0, at: 0 };
     for i in 0..count {
-        now = one_call(e, structure, cells, &mut frame, list, i, wanted, now, state);
+        now = one_call(e, under, cells, &mut frame, list, i, wanted, now, state);
     }
     now.at
 }
@@ -335,10 +359,11 @@ fn opened_structure(structure: [u8; 81], count: usize, cause: usize, x: u64) -> 
     structure
 }
 
+// In three lists of four the cells have the structures for changes among them.
 fn try_frame(
     shape: samples::Shape,
     structure: [u8; 81],
-    cells: &[u8; 640],
+    cells: &mut [u8; 640],
     x: u64,
     state: &mut [u64; 48],
 ) {
@@ -346,24 +371,28 @@ fn try_frame(
     let count = samples::power3(shape.rank);
     let bytes = opened_structure(structure, count, cause, x);
     let used = samples::first_sizes(&shape.entries, shape.rank);
+    if x / 4096 % 4 != 0 {
+        plain::prepare(cells, bytes, count, x / 16);
+    }
     try_calls(used, samples::first(&bytes, count), cells, cause, x, state);
 }
 
-// Some frames have more than 255 groups: a structure of zeros, and 600 cells.
+// Some frames have more than 255 groups: a structure of zeros, and 600 cells. Half of the others begin under a structure of few bytes.
 fn try_list(state: &mut [u64; 48]) {
     let mut structure = [0u8; 81];
     let mut cells = [0u8; 640];
     let shape = samples::random_frame(state, &mut structure, &mut cells);
     let x = tally::random(state);
-    if x / 256 % 12 == 0 {
+    if x / 256 % 8 == 0 {
         let many = samples::Shape {
             rank: 2,
             entries: [4, 150, 0, 0],
         };
-        try_frame(many, [0; 81], &cells, x, state);
+        try_frame(many, [0; 81], &mut cells, x, state);
         return;
     }
-    try_frame(shape, structure, &cells, x, state);
+    let thin = samples::thinned(structure, samples::power3(shape.rank), x / 65536);
+    try_frame(shape, thin, &mut cells, x, state);
 }
 
 fn try_lists(state: &mut [u64; 48]) {
@@ -374,13 +403,20 @@ fn try_lists(state: &mut [u64; 48]) {
 
 fn report(state: &[u64; 48]) {
     tally::report(state, b"lists: #\ncalls: #\n", tally::TRIED);
+    tally::report(
+        state,
+        b"structure changes: #\n  accepted: #\n  before the first line: #\n  after the last: #\n",
+        tally::CHANGES,
+    );
     tally::report(state, b"openings and calls accepted: #\n", tally::REFUSED);
+    tally::report(state, b"refused 2: #\n", tally::REFUSED_2);
     tally::report(
         state,
         b"refused 5: #\nrefused 6: #\nrefused 7: #\nrefused 8: #\nrefused 9: #\nrefused 10: #\nno calls: #\n",
         29,
     );
     tally::report(state, b"refused 12: #\n", tally::REFUSED_12);
+    tally::report(state, b"refused 19: #\n", tally::REFUSED_19);
     tally::report(state, b"differed=#\n", tally::DIFFERED);
 }
 

@@ -25,6 +25,7 @@ positive C.Cells = omega arith
 positive C.Length = omega arith
 positive C.Kind = omega arith
 positive C.Lopsided = omega arith
+positive C.NotWider = omega arith
 
 -- so a check failed where its number is above 0
 pub check-passes : (k : Check) → k ≡ K.Passed → false ≡ ltb 0 (checkNumber k)

@@ -18,6 +18,7 @@ causeNumber C.Cells = 8
 causeNumber C.Length = 9
 causeNumber C.Kind = 10
 causeNumber C.Lopsided = 12
+causeNumber C.NotWider = 19
 
 -- 0 where a check passes
 abbrev pub checkNumber : Check → ℕ

@@ -3,14 +3,16 @@
 //     Cause                                  the causes, with the documents' numbers
 //     open_check, frame_check                an opening's, and what is known of a whole frame's
 //     feed_check, read_check, sizes_check    those of a call on a record that is known to be sound
+//     widen_check                            so of a structure change
 //
 // Promised (specs/Checks.antt): the number is that of the first cause that holds, in the documents' order, or none. A check that works out
 // the geometry hands it on, so that it is worked out once.
 ghost use mathlib.Core.Path.{_≡_};
 ghost use mathlib.Core.Bool.{true};
-ghost use Prim.Native.Nat.{_-_, _*_, _<_};
+ghost use Prim.Native.Nat.{_-_, _*_, _^_, _≤_, _<_};
 ghost use lib.Dec.{ltb};
-ghost use Rattle.frame.specs.Causes.{openCause, frameCause, feedCause, readCause, sizesCause};
+ghost use Rattle.frame.specs.Causes.{openCause, frameCause, feedCause, readCause, sizesCause, widenCause};
+ghost use Rattle.frame.specs.Lists.{entries};
 ghost use Rattle.frame.specs.Kinds.{Number, largest, holds};
 ghost use Rattle.causes.specs.Cases.{causeNumber, checkNumber};
 ghost use Rattle.causes.specs.Checks.{LentFound, FeedAsked};
@@ -39,6 +41,8 @@ pub enum Cause {
     Kind,
     // byte i and byte 3^rank - 1 - i of a structure are not both zero or both nonzero
     Lopsided,
+    // the left bytes of the old and the new structure differ in being zero, or an offset nonzero in the old is zero in the new
+    NotWider,
 }
 
 impl Cause {
@@ -58,6 +62,7 @@ impl Cause {
             Cause::Length => 9,
             Cause::Kind => 10,
             Cause::Lopsided => 12,
+            Cause::NotWider => 19,
         }
     }
 }
@@ -196,6 +201,23 @@ pub fn sizes_check(n: usize, places: usize) -> Check
 {
     if places != n {
         return Check::Failed(Cause::Length);
+    }
+    Check::Passed
+}
+
+// 2, 12, 19: of the structure held, whose first 3^rank bytes count, and the new one.
+pub fn widen_check(rank: usize, old: &[u8; 81], new: &[u8]) -> Check
+    requires { ⌜ (1 ≤ rank) × (rank ≤ 4) ⌝ }
+    ensures { λ r. ⌜ checkNumber r ≡ widenCause true rank (entries (3 ^ rank) (now (old .entry))) (now (new .entry)) ⌝ }
+{
+    if new.len() != geo::power3(rank) {
+        return Check::Failed(Cause::StructureLength);
+    }
+    if geo::lopsided(rank, new) {
+        return Check::Failed(Cause::Lopsided);
+    }
+    if geo::not_wider(rank, old, new) {
+        return Check::Failed(Cause::NotWider);
     }
     Check::Passed
 }

@@ -1,8 +1,9 @@
-// A plain labelling by flood fill, cell by cell, and the words that document 01 lays out for it: what the test programs compare with. It
-// calls no other crate.
+// A plain labelling by flood fill, cell by cell, the words that document 01 lays out for it, and the causes of a structure change: what the
+// test programs compare with. It calls no other crate.
 //
 // Nothing is promised of what these functions answer; they are safe and they end. A read out of range gives 0, a write there does nothing,
 // sums wrap, and a product with a number of 65,536 or more is 0.
+pub mod changes;
 pub mod layout;
 
 // ---- guarded access

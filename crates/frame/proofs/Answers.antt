@@ -17,22 +17,24 @@ use Rattle.frame.specs.Touches.{reaches, used, hasNbr, nbrLine, touchesB
 use Rattle.frame.specs.Kinds.{nz, nzℤ, nzF, flags, u8, u16, u32, largest, holds}
 use Rattle.frame.specs.Memory.{perLine, wordsNeeded}
 use Rattle.frame.specs.Causes.{badRank, hasZero, tooLarge, unlike, lopsided, firstCause, openTests, openCause, feedTests, feedCause}
-use Rattle.frame.specs.Causes.{readTests, readCause, sizesTests, sizesCause, frameTests, frameCause}
-use Rattle.frame.specs.Plain.{unless, kept, feeds, groupsOf, figures, cause, answer, written, next, plain, session}
-use Rattle.frame.specs.Frames.{asked, nine, slips, refusals, frames}
+use Rattle.frame.specs.Causes.{readTests, readCause, sizesTests, sizesCause, leftDiffers, dropped, notWider, widenTests, widenCause}
+use Rattle.frame.specs.Causes.{frameTests, frameCause}
+use Rattle.frame.specs.Plain.{unless, kept, feeds, widens, groupsOf, figures, cause, answer, written, changed, next, plain, session}
+use Rattle.frame.specs.Frames.{asked, nine, slips, refusals, changes, frames}
 
 -- what the computation of a session opens
 computed : Unit {0}
 unfolding merge rep isRoot count groups gather pairs number size width leading coords offset backward on leftOn nonzero sameList any
     leadsBy edgesBy edges groupCount label range labels sizeOf sizesOf goesOn beginsRun runs nonzeroCells nz nzℤ nzF flags largest holds
     perLine wordsNeeded badRank hasZero tooLarge unlike lopsided firstCause openTests openCause feedTests feedCause readTests readCause
-    sizesTests sizesCause unless kept feeds groupsOf figures cause answer written next plain session zipWith
+    sizesTests sizesCause leftDiffers dropped notWider widenTests widenCause unless kept feeds widens groupsOf figures cause answer
+    written changed next plain session zipWith
 computed = tt
 
 -- ---- the fact: every session of the list is answered as it stands there
 
 pub frames-right : map asked frames ≡ map (λ f. f .answers) frames
-unfolding asked frames nine slips refusals computed
+unfolding asked frames nine slips refusals changes computed
 frames-right = refl
 
 -- ---- causes: of each call, what is wrong is mended one cause at a time
@@ -54,6 +56,11 @@ order =
     ∷ sizesCause false 3 2
     ∷ sizesCause true 3 2
     ∷ sizesCause true 2 2
+    ∷ widenCause false 2 (replicate 9 1) (replicate 8 0)
+    ∷ widenCause true 2 (replicate 9 1) (replicate 8 0)
+    ∷ widenCause true 2 (replicate 9 1) (0 ∷ replicate 8 1)
+    ∷ widenCause true 2 (replicate 9 1) (0 ∷ replicate 7 1 ++ 0 ∷ [])
+    ∷ widenCause true 2 (replicate 9 1) (replicate 9 2)
     ∷ frameCause (0 ∷ 3 ∷ []) (1 ∷ []) 33 8 8 (holds u8 256)
     ∷ frameCause (0 ∷ 3 ∷ []) (0 ∷ replicate 8 1) 33 8 8 (holds u8 256)
     ∷ frameCause (0 ∷ 3 ∷ []) (2 ∷ replicate 8 1) 33 8 8 (holds u8 256)
@@ -64,7 +71,8 @@ order =
     ∷ frameCause (3 ∷ 3 ∷ []) (replicate 9 1) 34 9 9 (holds u8 255)
     ∷ []
 
-order-right : order ≡ 6 ∷ 7 ∷ 8 ∷ 0 ∷ 6 ∷ 9 ∷ 10 ∷ 0 ∷ 10 ∷ 0 ∷ 10 ∷ 0 ∷ 6 ∷ 9 ∷ 0 ∷ 2 ∷ 12 ∷ 3 ∷ 5 ∷ 8 ∷ 9 ∷ 10 ∷ 0 ∷ []
+order-right : order
+    ≡ 6 ∷ 7 ∷ 8 ∷ 0 ∷ 6 ∷ 9 ∷ 10 ∷ 0 ∷ 10 ∷ 0 ∷ 10 ∷ 0 ∷ 6 ∷ 9 ∷ 0 ∷ 6 ∷ 2 ∷ 12 ∷ 19 ∷ 0 ∷ 2 ∷ 12 ∷ 3 ∷ 5 ∷ 8 ∷ 9 ∷ 10 ∷ 0 ∷ []
 unfolding order frameTests frameCause computed
 order-right = refl
 

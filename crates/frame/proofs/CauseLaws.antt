@@ -13,7 +13,8 @@ use Rattle.groups.proofs.BoolLaws.{or-left}
 use Rattle.frame.specs.Shape.{size, leading}
 use Rattle.frame.specs.Memory.{wordsNeeded}
 use Rattle.frame.specs.Causes.{badRank, hasZero, tooLarge, lopsided, Test, when, firstCause, openTests, openCause, feedTests}
-use Rattle.frame.specs.Causes.{feedCause, readTests, readCause, sizesTests, sizesCause, restTests, frameTests, frameCause}
+use Rattle.frame.specs.Causes.{feedCause, readTests, readCause, sizesTests, sizesCause, notWider, widenTests, widenCause}
+use Rattle.frame.specs.Causes.{restTests, frameTests, frameCause}
 
 -- ---- accepted
 
@@ -69,6 +70,10 @@ read-real sound out wanted fits = ((λ z. omega arith), ((λ z. omega arith), ((
 pub sizes-real : (sound : Bool) (out n : ℕ) → Real (sizesTests sound out n)
 unfolding sizesTests
 sizes-real sound out n = ((λ z. omega arith), ((λ z. omega arith), tt))
+
+pub widen-real : (sound : Bool) (rank : ℕ) (old new : List ℕ) → Real (widenTests sound rank old new)
+unfolding widenTests
+widen-real sound rank old new = ((λ z. omega arith), ((λ z. omega arith), ((λ z. omega arith), ((λ z. omega arith), tt))))
 
 pub frame-real : (shape structure : List ℕ) (memory cells out : ℕ) (fits : Bool) → Real (frameTests shape structure memory cells out fits)
 unfolding frameTests
@@ -144,6 +149,13 @@ pub accepted-sizes : (out n : ℕ) → out ≡ n → sizesCause true out n ≡ 0
 unfolding sizesCause sizesTests firstCause
 accepted-sizes out n e = rw (eq-eqb out n e)
 
+pub widen-accepted : (sound : Bool) (rank : ℕ) (old new : List ℕ) → widenCause sound rank old new ≡ 0
+    → (sound ≡ true) × (length new ≡ 3 ^ rank) × (lopsided rank new ≡ false) × (notWider rank old new ≡ false)
+unfolding widenCause widenTests
+widen-accepted sound rank old new e =
+    let h = accepted (widenTests sound rank old new) (widen-real sound rank old new) .0 e in
+    (not-false sound (h .0), same-count (length new) (3 ^ rank) (h .1 .0), h .1 .1 .0, h .1 .1 .1 .0)
+
 -- what is known of a whole frame before anything is written: it opens, and its cells and its output are L × w
 module _ (shape structure : List ℕ) (memory cells out : ℕ) (none : frameCause shape structure memory cells out true ≡ 0) where
   parts : NoneHolds (openTests shape structure memory) × NoneHolds (restTests shape cells out true)
@@ -213,3 +225,8 @@ read-six out wanted fits = never 6 (readTests true out wanted fits)
 pub sizes-six : (out n : ℕ) → sizesCause true out n ≢ 6
 unfolding sizesCause sizesTests
 sizes-six out n = never 6 (sizesTests true out n) ((λ h. absurd (true≢false (sym h))), ((λ h z. omega arith), (λ z. omega arith)))
+
+pub widen-six : (rank : ℕ) (old new : List ℕ) → widenCause true rank old new ≢ 6
+unfolding widenCause widenTests
+widen-six rank old new = never 6 (widenTests true rank old new)
+    ((λ h. absurd (true≢false (sym h))), ((λ h z. omega arith), ((λ h z. omega arith), ((λ h z. omega arith), (λ z. omega arith)))))

@@ -56,6 +56,12 @@ none-any f n h = go (any f n) refl
     go true e = let r = any-found f n e in absurd (true≢false (sym (r .2) ∙ h (r .0) (r .1)))
     go false e = e
 
+-- the test is asked below n only
+pub any-same : (f g : ℕ → Bool) (n : ℕ) → ((k : ℕ) → k < n → f k ≡ g k) → any f n ≡ any g n
+unfolding any
+any-same f g zero h = refl
+any-same f g (suc n) h = ap₂ _||_ (h n (le-refl (suc n))) (any-same f g n (λ k l. h k (omega arith)))
+
 same-eq : (xs ys : List ℕ) → sameList xs ys ≡ true → xs ≡ ys
 unfolding sameList
 same-eq [] [] h = refl

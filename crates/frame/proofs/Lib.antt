@@ -19,5 +19,6 @@ pub mod RunGroupLaws
 pub mod GrowLaws
 pub mod KindLaws
 pub mod CauseLaws
+pub mod WiderLaws
 pub mod ScipyLaws
 pub mod PlainLaws

@@ -2,22 +2,20 @@
 -- Assumes nothing.
 use mathlib.Core.Path.{_≡_, refl, sym, ap, ap₂, _∙_, subst}
 use mathlib.Core.Logic.{_≢_}
-use mathlib.Core.Bool.{Bool, true, false, cond}
+use mathlib.Core.Bool.{Bool, true}
 use mathlib.Core.List.{List, [], _∷_, _++_, append-assoc, append-nil}
 use Prim.Native.Nat.{ℕ, zero, suc, _+_, _-_, _*_, _≤_, _<_}
-use native.Mathlib.Nat.{add-mul, add-assoc, add-zero, zero-mul}
+use native.Mathlib.Nat.{add-mul, add-assoc, add-zero, zero-add, zero-mul}
 use native.Mathlib.Omega.{arith}
-use borrow.Author.Tests.{eqb-true, ne-eqb}
-use lib.Dec.{eqb}
 use lib.ListN.{length, length-append}
 use Rattle.frame.specs.Shape.{size, width, lines}
-use Rattle.frame.specs.Kinds.{Cells, flags, holds}
+use Rattle.frame.specs.Kinds.{flags, holds}
 use Rattle.frame.specs.declared.Figures.{Figures}
-use Rattle.frame.specs.Plain.{Call, feed, read, sizes, Answer, refused, unless, kept, State, opened, feeds, groupsOf, figures, cause}
-use Rattle.frame.specs.Plain.{next, after}
+use Rattle.frame.specs.Plain.{Call, feed, read, sizes, widen, Answer, refused, unless, kept, State, opened, feeds, widens, groupsOf}
+use Rattle.frame.specs.Plain.{figures, cause, changed, next, after}
 use Rattle.frame.proofs.ShapeLaws.{Fits}
 use Rattle.frame.proofs.RunLaws.{count-runs}
-use Rattle.frame.proofs.CauseLaws.{feed-accepted, feed-six, read-six, sizes-six}
+use Rattle.frame.proofs.CauseLaws.{feed-accepted, feed-six, read-six, sizes-six, widen-six}
 
 -- figures are the same where each of them is
 pub figures-same : {r r′ j j′ c c′ : ℕ} → r ≡ r′ → j ≡ j′ → c ≡ c′
@@ -58,6 +56,11 @@ module _ {A : Type 0} (old new : A) where
   unfolding kept
   kept-old c d e = rw e refl
 
+kept-both : {A : Type 0} (a : A) (c : ℕ) → kept c a a ≡ a
+unfolding kept
+kept-both a zero = refl
+kept-both a (suc c) = refl
+
 pub kept-same : {A : Type 0} (c d : ℕ) (old a b : A) → c ≡ d → (c ≡ 0 → a ≡ b) → kept c old a ≡ kept d old b
 kept-same {A} c d old a b e h = subst (λ (x : ℕ). kept c old a ≡ kept x old b) e (go c h)
   where
@@ -86,17 +89,22 @@ module _ (shape : List ℕ) where
         whole = length-append (p .cells) cells ∙ ap₂ (λ (x : ℕ) (y : ℕ). x + y) (F .whole) e ∙ sym (add-mul (p .fed) k (width shape));
       }
 
+  changed-fits : (p : State) (c : Call) → FitsIn p → cause shape p c ≡ 0 → FitsIn (changed shape p c)
+  unfolding changed
+  changed-fits p (feed k cells) F e =
+      let a = feed-accepted true (lines shape - p .fed) k (width shape) (length (flags cells)) (unfold cause in e) in
+      feeds-fits p k (flags cells) F (a .1) (a .2)
+  changed-fits p (read kind out) F e = F
+  changed-fits p (sizes out) F e = F
+  changed-fits p (widen structure) F e = unfold widens in F
+
   pub next-fits : (p : State) (c : Call) → FitsIn p → FitsIn (next shape p c)
-  unfolding next
-  next-fits p (read kind out) F = F
-  next-fits p (sizes out) F = F
-  next-fits p (feed k cells) F = go (eqb (cause shape p (feed k cells)) 0) refl
+  unfolding next kept
+  next-fits p c F = go (cause shape p c) refl
     where
-      go : (b : Bool) → eqb (cause shape p (feed k cells)) 0 ≡ b
-          → FitsIn (cond (eqb (cause shape p (feed k cells)) 0) (feeds p k (flags cells)) p)
-      go true t = rw t (let a = feed-accepted true (lines shape - p .fed) k (width shape) (length (flags cells))
-          (unfold cause in eqb-true _ _ t) in feeds-fits p k (flags cells) F (a .1) (a .2))
-      go false t = rw t F
+      go : (d : ℕ) → cause shape p c ≡ d → FitsIn (kept d p (changed shape p c))
+      go zero e = changed-fits p c F e
+      go (suc d) e = F
 
   pub after-fits : (cs : List Call) (p : State) → FitsIn p → FitsIn (after shape p cs)
   unfolding after
@@ -105,14 +113,18 @@ module _ (shape : List ℕ) where
 
   -- ---- the next state
 
-  pub next-feeds : (p : State) (k : ℕ) (cells : Cells) → cause shape p (feed k cells) ≡ 0
-      → next shape p (feed k cells) ≡ feeds p k (flags cells)
+  pub next-accepted : (p : State) (c : Call) → cause shape p c ≡ 0 → next shape p c ≡ changed shape p c
   unfolding next
-  next-feeds p k cells e = rw e refl
+  next-accepted p c e = kept-new p (changed shape p c) (cause shape p c) e
 
-  pub next-stays : (p : State) (k : ℕ) (cells : Cells) (c : ℕ) → cause shape p (feed k cells) ≡ suc c → next shape p (feed k cells) ≡ p
+  pub next-refused : (p : State) (c : Call) (d : ℕ) → cause shape p c ≡ suc d → next shape p c ≡ p
   unfolding next
-  next-stays p k cells c e = rw (e, ne-eqb (suc c) 0 (λ q. omega arith)) refl
+  next-refused p c d e = kept-old p (changed shape p c) (cause shape p c) d e
+
+  -- a call that changes nothing where it is accepted changes nothing
+  pub next-stays : (p : State) (c : Call) → changed shape p c ≡ p → next shape p c ≡ p
+  unfolding next
+  next-stays p c e = rw e (kept-both p (cause shape p c))
 
   -- ---- figures
 
@@ -128,6 +140,7 @@ module _ (shape : List ℕ) where
   six-never p (feed k cells) = feed-six (lines shape - p .fed) k (width shape) (length (flags cells))
   six-never p (read kind out) = read-six (length out) (size shape) (holds kind (groupsOf shape p))
   six-never p (sizes out) = sizes-six (length out) (groupsOf shape p)
+  six-never p (widen structure) = widen-six (length shape) (p .structure) structure
 
 -- a feed of no lines changes nothing
 pub feeds-none : (p : State) → feeds p 0 [] ≡ p
@@ -140,3 +153,8 @@ pub feeds-feeds : (p : State) (k j : ℕ) (xs ys : List Bool) → feeds (feeds p
 unfolding feeds
 feeds-feeds p k j xs ys = ap₂ (λ (m : ℕ) (l : List Bool). record { structure = p .structure; fed = m; cells = l }) (add-assoc (p .fed) k j)
     (append-assoc (p .cells) xs ys)
+
+-- a session whose structure changes is then as if opened with the new one and fed its lines
+pub widens-opened : (p : State) (structure : List ℕ) → widens p structure ≡ feeds (opened structure) (p .fed) (p .cells)
+unfolding widens feeds
+widens-opened p structure = ap (λ (m : ℕ). record { structure = structure; fed = m; cells = p .cells }) (sym (zero-add (p .fed)))

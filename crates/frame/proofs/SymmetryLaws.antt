@@ -8,18 +8,18 @@ use Prim.Native.Nat.{ℕ, zero, suc, _+_, _-_, _*_, _/_, _%_, _^_, _≤_, _<_}
 use native.Mathlib.Nat.{pow-succ', div-add-mod', mod-lt, suc-mul}
 use native.Mathlib.Omega.{arith}
 use borrow.Author.Tests.{ltb-true, ltb-false}
-use lib.Dec.{eqb, ltb}
+use lib.Dec.{ltb}
 use lib.Arith.{digits-div, digits-mod}
 use lib.ListN.{length}
-use Rattle.groups.proofs.BoolLaws.{bool-same, same-bits, bits-same}
+use Rattle.groups.proofs.BoolLaws.{same-bits, bits-same}
 use Rattle.frame.specs.Shape.{coords}
 use Rattle.frame.specs.Lists.{entries}
 use Rattle.frame.specs.Structure.{offset, Moved, on, oppositeCode, Symmetric}
 use Rattle.frame.specs.ChainRule.{any}
 use Rattle.frame.specs.Causes.{unlike, lopsided}
 use Rattle.frame.proofs.StructureLaws.{three-pos, offset-first, moved-cons, moved-head}
-use Rattle.frame.proofs.EntryLaws.{getD-entries}
-use Rattle.frame.proofs.ChainRuleLaws.{any-found, any-at, any-none, none-any}
+use Rattle.frame.proofs.EntryLaws.{on-entries}
+use Rattle.frame.proofs.ChainRuleLaws.{any-none, none-any, any-same}
 
 -- ---- the test
 
@@ -57,14 +57,10 @@ module _ (rank : ℕ) (structure : List ℕ) where
   -- of an array, the first 3^rank bytes decide
   pub lopsided-entries : lopsided rank (entries (3 ^ rank) structure) ≡ lopsided rank structure
   unfolding lopsided unlike
-  lopsided-entries = bool-same _ _
-      (λ h. let r = any-found (unlike rank (entries (3 ^ rank) structure)) (3 ^ rank) h in
-      any-at (unlike rank structure) (3 ^ rank) (r .0) (r .1) (sym (same (r .0) (r .1)) ∙ r .2))
-      (λ h. let r = any-found (unlike rank structure) (3 ^ rank) h in
-      any-at (unlike rank (entries (3 ^ rank) structure)) (3 ^ rank) (r .0) (r .1) (same (r .0) (r .1) ∙ r .2))
+  lopsided-entries = any-same (unlike rank (entries (3 ^ rank) structure)) (unlike rank structure) (3 ^ rank) same
     where
       bit : (k : ℕ) → k < 3 ^ rank → on (entries (3 ^ rank) structure) k ≡ on structure k
-      bit k m = unfold on in ap (λ (x : ℕ). not (eqb x 0)) (getD-entries (3 ^ rank) structure k m)
+      bit = on-entries (3 ^ rank) structure
 
       same : (k : ℕ) → k < 3 ^ rank → unlike rank (entries (3 ^ rank) structure) k ≡ unlike rank structure k
       same k m = ap₂ (λ (a b : Bool). not (Bool·beq a b)) (bit k m) (bit (oppositeCode rank k) (omega (arith, three-pos rank)))

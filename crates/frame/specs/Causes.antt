@@ -1,12 +1,12 @@
 -- The causes of a refusal, and each call's order of them.
 -- Assumes nothing.
-use mathlib.Core.Bool.{Bool, false, not, cond, _||_, Bool·beq}
+use mathlib.Core.Bool.{Bool, false, not, cond, _&&_, _||_, Bool·beq}
 use mathlib.Core.List.{List, [], _∷_, _++_}
 use Prim.Native.Nat.{ℕ, _*_, _^_}
 use lib.Dec.{eqb, ltb, leb}
 use lib.ListN.{length}
 use Rattle.frame.specs.Shape.{size, width, leading, lines}
-use Rattle.frame.specs.Structure.{on, oppositeCode}
+use Rattle.frame.specs.Structure.{on, leftCode, oppositeCode}
 use Rattle.frame.specs.ChainRule.{any}
 use Rattle.frame.specs.Memory.{wordsNeeded}
 
@@ -33,6 +33,18 @@ unlike rank structure i = not (Bool·beq (on structure i) (on structure (opposit
 
 unfoldable pub lopsided : ℕ → List ℕ → Bool
 lopsided rank structure = any (unlike rank structure) (3 ^ rank)
+
+-- ---- a condition on a session's structure and the one that is to follow it
+
+-- 19 (document 02, F-12): the left bytes differ in being zero, or an offset nonzero in the old is zero in the new
+unfoldable pub leftDiffers : ℕ → List ℕ → List ℕ → Bool
+leftDiffers rank old new = not (Bool·beq (on old (leftCode rank)) (on new (leftCode rank)))
+
+unfoldable pub dropped : List ℕ → List ℕ → ℕ → Bool
+dropped old new i = on old i && not (on new i)
+
+unfoldable pub notWider : ℕ → List ℕ → List ℕ → Bool
+notWider rank old new = leftDiffers rank old new || any (dropped old new) (3 ^ rank)
 
 -- ---- order
 
@@ -83,6 +95,18 @@ sizesTests sound out n = when (not sound) 6 ∷ when (not (eqb out n)) 9 ∷ []
 
 unfoldable pub sizesCause : Bool → ℕ → ℕ → ℕ
 sizesCause sound out n = firstCause (sizesTests sound out n)
+
+-- structure change: 6, 2, 12, 19. Whether the record is sound, the rank, the structure held and the new one
+unfoldable pub widenTests : Bool → ℕ → List ℕ → List ℕ → List Test
+widenTests sound rank old new =
+    when (not sound) 6
+    ∷ when (not (eqb (length new) (3 ^ rank))) 2
+    ∷ when (lopsided rank new) 12
+    ∷ when (notWider rank old new) 19
+    ∷ []
+
+unfoldable pub widenCause : Bool → ℕ → List ℕ → List ℕ → ℕ
+widenCause sound rank old new = firstCause (widenTests sound rank old new)
 
 -- whole frame: an opening's, then the rest, 8, 9, 10. The counts of words, of cells and of output places, and whether the kind holds n
 abbrev pub restTests : List ℕ → ℕ → ℕ → Bool → List Test

@@ -8,7 +8,7 @@ use lib.Ieee.{nan, inf, fin}
 use lib.ListN.{replicate}
 use Rattle.frame.specs.Shape.{size, leading, lines}
 use Rattle.frame.specs.Kinds.{u8s, u16s, i16s, f32s, Number, u8, u16, u32, Value}
-use Rattle.frame.specs.Plain.{Call, feed, read, sizes, fed, counted, refused, nothing, numbers, counts, Answered, session}
+use Rattle.frame.specs.Plain.{Call, feed, read, sizes, widen, fed, counted, refused, nothing, numbers, counts, Answered, session}
 
 -- a session: shape, structure, count of words and calls, with what is answered and written
 pub record Frame : Type 0 where
@@ -207,5 +207,66 @@ refusals =
     }
     ∷ []
 
+-- ---- document 02's structure change: each refusal leaves the structure, and an accepted change counts joins from the first line
+
+unfoldable pub changes : List Frame
+unfolding C F digitsOf
+changes =
+    -- the cross splits a bud, and nine ones join it
+    record {
+      shape = 3 ∷ 3 ∷ [];
+      structure = C;
+      memory = 34;
+      calls =
+          feed 2 (u8s (d 6 100010))
+          ∷ widen (replicate 8 1)
+          ∷ widen (d 9 110111010)
+          ∷ widen (d 9 111010111)
+          ∷ widen (d 9 111000)
+          ∷ widen (d 9 10101010)
+          ∷ read u8 (o 9)
+          ∷ widen F
+          ∷ read u8 (o 9)
+          ∷ sizes (o 1)
+          ∷ feed 1 (u8s (d 3 1))
+          ∷ widen C
+          ∷ widen (replicate 9 2)
+          ∷ read u8 (o 9)
+          ∷ [];
+      answers =
+          fedAll 2 2 0 2
+          ∷ no 2
+          ∷ no 12
+          ∷ no 19
+          ∷ no 19
+          ∷ no 19
+          ∷ got u8 2 2 0 2 (d 9 100020000)
+          ∷ fedAll 2 2 1 2
+          ∷ got u8 1 2 1 2 (d 9 100010000)
+          ∷ sized 1 2 1 2 (d 1 2)
+          ∷ fedAll 3 3 2 3
+          ∷ no 19
+          ∷ fedAll 3 3 2 3
+          ∷ got u8 1 3 2 3 (d 9 100010001)
+          ∷ [];
+    }
+    -- before the first line, and rank 1: the centre may come and not go, the left byte may do neither
+    ∷ record {
+      shape = 3 ∷ [];
+      structure = d 3 0;
+      memory = 17;
+      calls = widen (d 3 111) ∷ widen (d 3 10) ∷ widen (d 3 0) ∷ feed 1 (u8s (d 3 111)) ∷ widen (d 3 111) ∷ widen (d 3 10) ∷ [];
+      answers = no 19 ∷ fedAll 0 0 0 0 ∷ no 19 ∷ fedAll 1 3 0 3 ∷ no 19 ∷ fedAll 1 3 0 3 ∷ [];
+    }
+    -- width 0
+    ∷ record {
+      shape = 2 ∷ 0 ∷ [];
+      structure = C;
+      memory = 3;
+      calls = feed 2 (u8s []) ∷ widen F ∷ read u8 [] ∷ [];
+      answers = fedAll 2 0 0 0 ∷ fedAll 2 0 0 0 ∷ got u8 0 0 0 0 [] ∷ [];
+    }
+    ∷ []
+
 unfoldable pub frames : List Frame
-frames = nine ++ slips ++ refusals
+frames = nine ++ slips ++ refusals ++ changes

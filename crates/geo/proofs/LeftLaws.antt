@@ -1,15 +1,13 @@
 -- The left byte of a structure of 3^rank bytes.
 -- Assumes nothing.
 use mathlib.Core.Path.{_≡_, sym, ap, _∙_}
-use mathlib.Core.Bool.{not}
 use mathlib.Core.List.{List}
 use Prim.Native.Nat.{ℕ, suc, _-_, _^_, _≤_}
 use native.Mathlib.Nat.{one-le-pow, pow-succ'}
 use native.Mathlib.Omega.{arith}
-use lib.Dec.{eqb}
 use Rattle.frame.specs.Lists.{entries}
 use Rattle.frame.specs.Structure.{on, leftCode, leftOn}
-use Rattle.frame.proofs.EntryLaws.{length-entries, getD-entries}
+use Rattle.frame.proofs.EntryLaws.{length-entries, on-entries}
 
 pub power-at : (m n : ℕ) → n ≡ m → 3 ^ m ≡ 3 ^ n
 power-at m n e = ap (λ (k : ℕ). 3 ^ k) (sym e)
@@ -23,8 +21,8 @@ power-three rank h =
 -- it is among those bytes
 pub left-is : (rank : ℕ) (shape structure : List ℕ) → 1 ≤ rank
     → on structure (leftCode rank) ≡ leftOn (entries rank shape) (entries (3 ^ rank) structure)
-unfolding leftOn on
+unfolding leftOn
 left-is rank shape structure h =
     let p = power-three rank h in
-    ap (λ (x : ℕ). not (eqb x 0)) (sym (getD-entries (3 ^ rank) structure (leftCode rank) (omega arith)))
+    sym (on-entries (3 ^ rank) structure (leftCode rank) (omega arith))
     ∙ ap (λ (k : ℕ). on (entries (3 ^ rank) structure) (leftCode k)) (sym (length-entries rank shape))

@@ -4,6 +4,7 @@
 //     geo_of                           leading dimensions, lines, width and left byte, worked out once for a call and handed on
 //     bad_rank, has_zero, too_large    causes 1, 3 and 4
 //     lopsided                         cause 12
+//     not_wider                        cause 19
 //     words_needed                     the words of memory that a session needs
 //     shape_sound                      whether shape, structure, memory and lines fed are such as a sound record's, and their geometry
 //     shape_of, structure_of           the arrays of a lent shape and structure
@@ -17,7 +18,7 @@ ghost use Rattle.frame.specs.Lists.{entries, padded};
 ghost use Rattle.frame.specs.Shape.{size, width, leading};
 ghost use Rattle.frame.specs.Structure.{on, leftCode};
 ghost use Rattle.frame.specs.Memory.{mostRuns};
-ghost use Rattle.frame.specs.Causes.{badRank, hasZero, lopsided};
+ghost use Rattle.frame.specs.Causes.{badRank, hasZero, lopsided, notWider};
 ghost use Rattle.geo.specs.Geometry.{ShapeReady, Measured, WithinLimits, largeGeo, wordsOf, ShapeFound};
 
 // The first width, and the first count of lines or of cells, that is too large.
@@ -119,6 +120,25 @@ pub fn lopsided(rank: usize, structure: &[u8]) -> bool
     let mut i = 0usize;
     while i < last - i {
         if (structure[i] != 0) != (structure[last - i] != 0) {
+            return true;
+        }
+        i += 1;
+    }
+    false
+}
+
+// 19: the left bytes differ in being zero, or an offset nonzero in the old structure is zero in the new. The centre's is looked at too.
+pub fn not_wider(rank: usize, old: &[u8], new: &[u8]) -> bool
+    requires { ⌜ (1 ≤ rank) × (rank ≤ 4) × (3 ^ rank ≤ length (now old)) × (3 ^ rank ≤ length (now new)) ⌝ }
+    ensures { λ r. ⌜ r ≡ notWider rank (now (old .entry)) (now (new .entry)) ⌝ }
+{
+    if left_byte(rank, old) != left_byte(rank, new) {
+        return true;
+    }
+    let count = power3(rank);
+    let mut i = 0usize;
+    while i < count {
+        if (old[i] != 0) & (new[i] == 0) {
             return true;
         }
         i += 1;

@@ -29,6 +29,11 @@ pub or-cases : (a b : Bool) → (a || b) ≡ true → (a ≡ true) ⊎ (b ≡ tr
 or-cases true b h = inl refl
 or-cases false b h = inr h
 
+-- both tests of an `or` that is false are
+pub or-false : (a b : Bool) → (a || b) ≡ false → (a ≡ false) × (b ≡ false)
+or-false false b h = (refl, h)
+or-false true b h = absurd (true≢false h)
+
 pub or₃-false : (a b c : Bool) → (a || (b || c)) ≡ false → (a ≡ false) × (b ≡ false) × (c ≡ false)
 or₃-false false false c h = (refl, refl, h)
 or₃-false false true c h = absurd (true≢false h)

@@ -15,6 +15,7 @@ use Rattle.frame.specs.Causes.{openCause}
 use Rattle.frame.specs.Plain.{Answer, fed, counted}
 use Rattle.frame.proofs.ShapeLaws.{Fits}
 use Rattle.frame.proofs.CauseLaws.{rank-right, Allowed, open-accepted, feed-accepted, accepted-feed, read-accepted, sizes-accepted}
+use Rattle.frame.proofs.CauseLaws.{widen-accepted}
 use Rattle.frame.proofs.PlainLaws.{unless-none, kept-new}
 use Rattle.geo.proofs.ShapeSoundLaws.{bytes-few}
 use Rattle.causes.specs.declared.Checked.{Checked}
@@ -22,13 +23,14 @@ use Rattle.causes.specs.Cases.{checkNumber}
 use Rattle.causes.specs.Checks.{LentFound}
 use Rattle.causes.proofs.CaseLaws.{passed-none}
 use Rattle.label.specs.declared.Session.{Session}
-use Rattle.label.specs.Record.{shapeOf, linesOf}
+use Rattle.label.specs.Record.{shapeOf, structureOf, linesOf}
 use Rattle.label.specs.Sound.{Sound, sound}
 use Rattle.label.specs.Held.{rootCount, numbersHeld, sizesHeld}
 use Rattle.label.specs.Opening.{openRecord, openWords, blank, OpenPromise}
 use Rattle.label.specs.Feeding.{feedRecord, feedCauseOf, FeedWords, FeedPromise}
+use Rattle.label.specs.Widening.{widenCauseOf, widenRecord, WidenWords, WidenPromise}
 use Rattle.label.specs.Reading.{withNames, countedOf, readCauseOf, ReadPromise, sizesCauseOf, SizesPromise}
-use Rattle.label.specs.Steps.{FeedAccepted, FeedDone, ReadAccepted}
+use Rattle.label.specs.Steps.{FeedAccepted, FeedDone, WidenAccepted, ReadAccepted}
 use Rattle.label.proofs.SoundLaws.{sound-right, right-sound, n-roots}
 
 -- ---- opening
@@ -119,6 +121,33 @@ module _ (s : Session) (ws : List ℕ) (k : ℕ) (cells : List Bool) where
       (subst (λ (x : Session). FeedPromise s ws k cells (fed (s .fed + k) (feedRecord s ws k cells .figures)) x ws′)
       (sym (same ∙ D .session))
       (accepted-promise G ws′ (D .words)))
+
+-- ---- structure change
+
+module _ (s : Session) (ws structure : List ℕ) where
+  pub cause-widens : widenCauseOf s ws structure ≡ 0 → WidenAccepted s ws structure
+  cause-widens e =
+      let h = widen-accepted (sound s ws) (length (shapeOf s)) (structureOf s) structure (unfold widenCauseOf in e) in
+      record { is-sound = sound-right s ws (h .0); bytes = h .1; not-lopsided = h .2; wider = h .3 }
+
+  -- a record holds the structure
+  pub widen-short : widenCauseOf s ws structure ≡ 0 → length structure ≤ 81
+  widen-short e =
+      let G = cause-widens e in
+      rw (G .bytes) (bytes-few (length (shapeOf s)) (rank-right (shapeOf s) (G .is-sound .shape .ranked) .1))
+
+  -- it answers the figures of the record that it hands back
+  pub widen-promise : widenCauseOf s ws structure ≡ 0 → (ws′ : List ℕ) → WidenWords s ws structure ws′
+      → (s′ : Session) → s′ ≡ widenRecord s ws structure → (a : Answer) → a ≡ fed (s′ .fed) (s′ .figures)
+      → WidenPromise s ws structure a s′ ws′
+  unfolding widenRecord
+  widen-promise e ws′ W s′ is a said = record {
+    said = said ∙ ap (λ (x : Session). fed (x .fed) (x .figures)) is
+        ∙ sym (unless-none (widenCauseOf s ws structure) (fed (s .fed) (widenRecord s ws structure .figures)) e);
+    session = is ∙ sym (kept-new s (widenRecord s ws structure) (widenCauseOf s ws structure) e);
+    refusal = λ h. absurd (omega (arith, e));
+    accepted = λ z. W;
+  }
 
 -- ---- reading, sizes
 

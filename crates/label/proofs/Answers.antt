@@ -18,14 +18,14 @@ use Rattle.causes.specs.Cases.{causeNumber}
 use Rattle.label.specs.Cases.{openNumber, feedAnswer, readAnswer}
 use Rattle.label.specs.Opening.{openRecord, blank}
 use Rattle.label.specs.WholeFrame.{chop, blockLines, blocks}
-use Rattle.label.proofs.CallFunctions.{FeedResult, ReadResult, doOpen, doFeed, doRead, doSizes, doFrame}
+use Rattle.label.proofs.CallFunctions.{FeedResult, ReadResult, doOpen, doFeed, doWiden, doRead, doSizes, doFrame}
 use Rattle.label.proofs.Worked.{computed, frame, cross, memory, line, whole, f, begun, one, two, three, junk, wide, wideWords, put}
-use Rattle.label.proofs.Worked.{held, row, sized, together}
+use Rattle.label.proofs.Worked.{ones, bud, held, row, sized, together}
 
 -- ---- the documents' numbers and values
 
 numbers-right : map causeNumber (C.Rank ∷ C.StructureLength ∷ C.ZeroDimension ∷ C.TooLarge ∷ C.Memory ∷ C.Unsound ∷ C.Lines ∷ C.Cells
-    ∷ C.Length ∷ C.Kind ∷ C.Lopsided ∷ []) ≡ 1 ∷ 2 ∷ 3 ∷ 4 ∷ 5 ∷ 6 ∷ 7 ∷ 8 ∷ 9 ∷ 10 ∷ 12 ∷ []
+    ∷ C.Length ∷ C.Kind ∷ C.Lopsided ∷ C.NotWider ∷ []) ≡ 1 ∷ 2 ∷ 3 ∷ 4 ∷ 5 ∷ 6 ∷ 7 ∷ 8 ∷ 9 ∷ 10 ∷ 12 ∷ 19 ∷ []
 numbers-right = refl
 
 openings-right : map openNumber (O.Accepted ∷ O.Refused C.Memory ∷ []) ≡ 0 ∷ 5 ∷ []
@@ -63,6 +63,31 @@ words-right : three .words
 unfolding begun one two three computed
 words-right = refl
 
+-- a structure change: two runs that touch at a corner become one group, and the record has the new structure
+widens-right : doWiden (bud .session) (bud .words) ones ≡ record {
+  said = fed 2 (f 2 1 2);
+  session = record {
+    rank = 2;
+    shape = 3 ∷ 3 ∷ 0 ∷ 0 ∷ [];
+    structure = ones ++ replicate 72 0;
+    fed = 2;
+    figures = f 2 1 2;
+  };
+  words = 0 ∷ 1 ∷ 2 ∷ 7 ∷ row 0 1 0 7 2 ++ row 1 2 0 7 0 ++ replicate 20 7;
+}
+unfolding begun bud computed
+widens-right = refl
+
+-- the same structure again, on records of other origin: the groups and the sizes that they held are dropped
+drops-right : map {B = Answer × List ℕ} (λ (d : FeedResult). (d .said, d .words))
+    (doWiden (held 2 4 3 4) together cross ∷ doWiden (two .session) (sized 3 1) cross ∷ [])
+    ≡ replicate 2 (
+      fed 2 (f 4 2 4),
+      0 ∷ 2 ∷ 4 ∷ 7 ∷ row 0 1 0 7 2 ++ row 2 3 1 7 2 ++ row 0 1 0 7 0 ++ row 2 3 1 7 0 ++ replicate 10 7,
+    )
+unfolding begun one two computed
+drops-right = refl
+
 -- after two lines two groups; each run's name becomes its number, and unfed cells get 0
 reading-right : doRead u8 (two .session) (two .words) junk ≡ record {
   said = counted 2 (f 4 2 4);
@@ -95,6 +120,7 @@ refusals-right :
     doFeed (two .session) (put 1 5) 1 whole .said
     ∷ doRead u8 (two .session) (put 1 5) junk .said
     ∷ doSizes (two .session) (put 1 5) (5 ∷ 5 ∷ []) .said
+    ∷ doWiden (two .session) (put 1 5) (take 8 ones) .said
     -- no line is left, and the cells are too few besides; one is left, and two are fed
     ∷ doFeed (three .session) (three .words) 1 [] .said
     ∷ doFeed (two .session) (two .words) 2 (line ++ line) .said
@@ -103,6 +129,12 @@ refusals-right :
     -- an output of eight, sizes for three numbers where there are two
     ∷ doRead u8 (two .session) (two .words) (replicate 8 5) .said
     ∷ doSizes (two .session) (two .words) (replicate 3 5) .said
+    -- a new structure of eight bytes, with one arm missing; with an arm more and another lost; without the arms to the sides; without the
+    -- centre
+    ∷ doWiden (two .session) (two .words) (take 8 (set cross 7 0)) .said
+    ∷ doWiden (two .session) (two .words) (set (set cross 7 0) 0 1) .said
+    ∷ doWiden (two .session) (two .words) (set (set ones 3 0) 5 0) .said
+    ∷ doWiden (two .session) (two .words) (set cross 4 0) .said
     -- 256 groups
     ∷ doRead u8 wide wideWords (replicate 256 5) .said
     -- of a whole frame: a structure with one arm missing, and 33 words; 33 words; eight cells; an output of eight
@@ -111,7 +143,7 @@ refusals-right :
     ∷ doFrame u8 frame cross memory (line ++ line ++ take 2 whole) (replicate 8 5) .said
     ∷ doFrame u8 frame cross memory (line ++ line ++ whole) (replicate 8 5) .said
     ∷ []
-    ≡ map refused (6 ∷ 6 ∷ 6 ∷ 7 ∷ 7 ∷ 8 ∷ 9 ∷ 9 ∷ 10 ∷ 12 ∷ 5 ∷ 8 ∷ 9 ∷ [])
+    ≡ map refused (6 ∷ 6 ∷ 6 ∷ 6 ∷ 7 ∷ 7 ∷ 8 ∷ 9 ∷ 9 ∷ 2 ∷ 12 ∷ 19 ∷ 19 ∷ 10 ∷ 12 ∷ 5 ∷ 8 ∷ 9 ∷ [])
 unfolding begun one two three computed
 refusals-right = refl
 
@@ -265,8 +297,8 @@ abbrev cube : List ℕ
 cube = 2 ∷ 2 ∷ 2 ∷ []
 
 -- 27 ones; and faces only, the offsets with one nonzero coordinate
-abbrev ones : List ℕ
-ones = replicate 27 1
+abbrev full : List ℕ
+full = replicate 27 1
 
 abbrev faces : List ℕ
 faces = replicate 4 0 ++ 1 ∷ replicate 5 0 ++ 1 ∷ 0 ∷ 1 ∷ 1 ∷ 1 ∷ 0 ∷ 1 ∷ replicate 5 0 ++ 1 ∷ replicate 4 0
@@ -291,8 +323,8 @@ show : FeedResult → Shown
 show d = (d .said, d .words, doRead u32 (d .session) (d .words) (replicate 8 5) .out)
 
 -- one group, two groups
-abbrev byOnes : Shown
-byOnes = (
+abbrev byFull : Shown
+byFull = (
   fed 4 (f 3 2 4),
   0 ∷ 1 ∷ 2 ∷ 3 ∷ 3 ∷ row 0 1 0 7 4 ++ row 1 2 0 7 0 ++ row 0 2 0 7 0 ++ replicate 5 7,
   1 ∷ 0 ∷ 0 ∷ 1 ∷ 1 ∷ 1 ∷ 0 ∷ 0 ∷ [],
@@ -305,7 +337,7 @@ byFaces = (
   1 ∷ 0 ∷ 0 ∷ 2 ∷ 1 ∷ 1 ∷ 0 ∷ 0 ∷ [],
 )
 
-blocks-right : map show (inBlocks ones ∷ atOnce ones ∷ inBlocks faces ∷ atOnce faces ∷ []) ≡ byOnes ∷ byOnes ∷ byFaces ∷ byFaces ∷ []
+blocks-right : map show (inBlocks full ∷ atOnce full ∷ inBlocks faces ∷ atOnce faces ∷ []) ≡ byFull ∷ byFull ∷ byFaces ∷ byFaces ∷ []
 unfolding inBlocks atOnce show computed
 blocks-right = refl
 

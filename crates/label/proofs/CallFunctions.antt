@@ -5,7 +5,7 @@ use mathlib.Core.Bool.{Bool}
 use mathlib.Core.List.{List, map}
 use Prim.Native.Nat.{ℕ, zero, suc, _+_}
 use lib.ListN.{length}
-use Rattle.groups.specs.Groups.{rep}
+use Rattle.groups.specs.Groups.{Edge, rep}
 use Rattle.frame.specs.Shape.{lines}
 use Rattle.frame.specs.ChainRule.{labels}
 use Rattle.frame.specs.Kinds.{Number, Value, write}
@@ -18,6 +18,7 @@ use Rattle.label.specs.Record.{linesOf}
 use Rattle.label.specs.Held.{numbersHeld, sizesHeld}
 use Rattle.label.specs.Opening.{openRecord, openWords, blank}
 use Rattle.label.specs.Feeding.{runsAfter, feedEdges, sizeAfter, feedRecord, withRuns, feedCauseOf}
+use Rattle.label.specs.Widening.{widenCauseOf, widenEdges, widenSize, widenRecord}
 use Rattle.label.specs.Reading.{withNames, countedOf, readCauseOf, sizesCauseOf}
 use Rattle.label.specs.WholeFrame.{allFed, earlyCauseOf, frameCauseOf}
 
@@ -29,7 +30,7 @@ pub record OpenResult : Type 0 where
   pub session : Session
   pub words : List ℕ
 
--- of a feed
+-- of a feed or a structure change
 pub record FeedResult : Type 0 where
   pub said : Answer
   pub session : Session
@@ -50,18 +51,15 @@ doOpen shape structure ws =
 
 -- ---- feeding
 
--- the new starts, the new runs, and each run's parent: its group's smallest run
-unfoldable pub withParents : Session → List ℕ → ℕ → List Bool → List ℕ
-withParents s ws k cells = setAll (parentPlace (linesOf s)) (rep (feedEdges s ws k cells)) (runsAfter s cells) (withRuns s ws k cells)
-
--- and each run's size, which is 0 for a run that is no root
-unfoldable pub withSizes : Session → List ℕ → ℕ → List Bool → List ℕ
-withSizes s ws k cells = setAll (sizePlace (linesOf s)) (sizeAfter s ws k cells) (runsAfter s cells) (withParents s ws k cells)
+-- each of n runs has its group's smallest run as its parent, and a size, in words for L lines
+unfoldable pub regrouped : ℕ → ℕ → List Edge → (ℕ → ℕ) → List ℕ → List ℕ
+regrouped L n es size ws = setAll (sizePlace L) size n (setAll (parentPlace L) (rep es) n ws)
 
 -- a feed of no lines changes nothing
 unfoldable pub feedWords : Session → List ℕ → ℕ → List Bool → List ℕ
 feedWords s ws zero cells = ws
-feedWords s ws (suc k) cells = withSizes s ws (suc k) cells
+feedWords s ws (suc k) cells =
+    regrouped (linesOf s) (runsAfter s cells) (feedEdges s ws (suc k) cells) (sizeAfter s ws (suc k) cells) (withRuns s ws (suc k) cells)
 
 unfoldable pub doFeed : Session → List ℕ → ℕ → List Bool → FeedResult
 doFeed s ws k cells =
@@ -70,6 +68,17 @@ doFeed s ws k cells =
       said = unless cause (fed (s .fed + k) (feedRecord s ws k cells .figures));
       session = kept cause s (feedRecord s ws k cells);
       words = kept cause ws (feedWords s ws k cells);
+    }
+
+-- ---- structure change
+
+unfoldable pub doWiden : Session → List ℕ → List ℕ → FeedResult
+doWiden s ws structure =
+    let cause = widenCauseOf s ws structure in
+    record {
+      said = unless cause (fed (s .fed) (widenRecord s ws structure .figures));
+      session = kept cause s (widenRecord s ws structure);
+      words = kept cause ws (regrouped (linesOf s) (s .figures .runs) (widenEdges s ws structure) (widenSize s ws structure) ws);
     }
 
 -- ---- reading, sizes

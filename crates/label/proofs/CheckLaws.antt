@@ -3,12 +3,15 @@
 use mathlib.Core.Path.{_≡_, refl, sym, ap, _∙_}
 use mathlib.Core.Bool.{Bool, true, false, cond}
 use mathlib.Core.List.{List}
-use Prim.Native.Nat.{ℕ, _-_, _*_, _<_}
+use Prim.Native.Nat.{ℕ, _-_, _*_, _^_, _≤_, _<_}
 use native.Mathlib.Omega.{arith}
 use lib.Dec.{ltb}
 use lib.ListN.{length}
 use Rattle.frame.specs.Kinds.{Number, holds}
-use Rattle.frame.specs.Causes.{firstCause, feedTests, feedCause, readTests, readCause, sizesTests, sizesCause}
+use Rattle.frame.specs.Lists.{entries}
+use Rattle.frame.specs.Causes.{firstCause, feedTests, feedCause, readTests, readCause, sizesTests, sizesCause, widenTests, widenCause}
+use Rattle.frame.proofs.EntryLaws.{length-entries}
+use Rattle.frame.proofs.CauseLaws.{rank-right}
 use Rattle.geo.specs.Geometry.{GeoOf}
 use Rattle.causes.specs.declared.Check.{Check}
 use Rattle.causes.specs.declared.Checked.{Checked}
@@ -17,8 +20,10 @@ use Rattle.causes.specs.Checks.{FeedAsked}
 use Rattle.causes.proofs.CaseLaws.{failed-some, passed-none}
 use Rattle.causes.proofs.OpenLaws.{found-cause}
 use Rattle.label.specs.declared.Session.{Session}
+use Rattle.label.specs.Record.{shapeOf, structureOf}
 use Rattle.label.specs.Sound.{Sound, sound}
 use Rattle.label.specs.Feeding.{feedCauseOf}
+use Rattle.label.specs.Widening.{widenCauseOf}
 use Rattle.label.specs.Reading.{readCauseOf, sizesCauseOf}
 use Rattle.label.specs.Steps.{soundCauseOf, RecordFound}
 use Rattle.label.proofs.SoundLaws.{sound-right, n-roots}
@@ -58,6 +63,10 @@ module _ (s : Session) (ws : List ℕ) {r : Checked} (F : RecordFound s (soundCa
     unfolding feedCauseOf feedCause feedTests firstCause
     feed-unsound k cells = six (feedCauseOf s ws k cells) (rw bad refl)
 
+    pub widen-unsound : (structure : List ℕ) → RecordFound s (widenCauseOf s ws structure) r
+    unfolding widenCauseOf widenCause widenTests firstCause
+    widen-unsound structure = six (widenCauseOf s ws structure) (rw bad refl)
+
     pub read-unsound : (kind : Number) (out : ℕ) → RecordFound s (readCauseOf kind s ws out) r
     unfolding readCauseOf readCause readTests firstCause
     read-unsound kind out = six (readCauseOf kind s ws out) (rw bad refl)
@@ -88,6 +97,15 @@ module _ (s : Session) (ws : List ℕ) {r : Checked} (F : RecordFound s (soundCa
       cells = geo-small s ws (r .geo) K found-sound;
     }
 
+    rank-is : length (shapeOf s) ≡ s .rank
+    unfolding shapeOf
+    rank-is = length-entries (s .rank) (s .shape)
+
+    pub widen-asked : (1 ≤ s .rank) × (s .rank ≤ 4)
+    widen-asked =
+        let h = rank-right (shapeOf s) (found-sound .shape .ranked) in
+        (omega (arith, h .0, rank-is), omega (arith, h .1, rank-is))
+
     pub read-asked : r .geo .lines * r .geo .width < 4294967293
     read-asked = geo-small s ws (r .geo) K found-sound
 
@@ -101,6 +119,12 @@ module _ (s : Session) (ws : List ℕ) {r : Checked} (F : RecordFound s (soundCa
         number = e ∙ rw (geo-lines s ws (r .geo) K, geo-width s ws (r .geo) K, yes, long) refl;
         geometry = λ no-cause. K;
       }
+
+      pub widen-found : (structure : List ℕ)
+          → checkNumber check ≡ widenCause true (s .rank) (entries (3 ^ s .rank) (s .structure)) structure
+          → RecordFound s (widenCauseOf s ws structure) (record { check = check; geo = r .geo })
+      unfolding widenCauseOf structureOf
+      widen-found structure e = record { number = e ∙ rw (yes, rank-is) refl; geometry = λ no-cause. K }
 
       pub read-found : (kind : Number) (out : ℕ)
           → checkNumber check ≡ readCause true out (r .geo .lines * r .geo .width) (holds kind (s .figures .runs - s .figures .joins))

@@ -38,10 +38,11 @@ use Rattle.label.specs.Sound.{Sound, sound}
 use Rattle.label.specs.Held.{cellsOf, HeldStep, rootCount, numberAt}
 use Rattle.label.specs.Opening.{openRecord, openWords}
 use Rattle.label.specs.Feeding.{runsAfter, startAfter, runAfter, feedRecord, withLines, withRuns, feedCauseOf, FeedWords, FeedPromise}
+use Rattle.label.specs.Widening.{widenRecord, widenCauseOf, WidenWords, WidenPromise}
 use Rattle.label.specs.Reading.{withNames, readCauseOf, ReadPromise, sizesCauseOf, SizesPromise}
 use Rattle.label.specs.Steps.{FeedAccepted}
 use Rattle.label.proofs.SoundLaws.{sound-right, starts-rise, n-joins}
-use Rattle.label.proofs.AcceptedLaws.{cause-accepted}
+use Rattle.label.proofs.AcceptedLaws.{cause-accepted, cause-widens}
 use Rattle.label.proofs.HoldLaws.{length-held}
 use Rattle.label.proofs.StoreLaws.{Stores}
 use Rattle.label.proofs.SoundCells.{sound-stores, runs-held, cells-held}
@@ -49,6 +50,7 @@ use Rattle.label.proofs.AnyOrigin.{any-numbered}
 use Rattle.label.proofs.FeedWordLaws.{Wrote}
 use Rattle.label.proofs.FeedLaws.{written}
 use Rattle.label.proofs.FeedSizeLaws.{sound-after}
+use Rattle.label.proofs.WidenLaws.{widened-sound}
 use Rattle.label.proofs.NameLaws.{parents-stand}
 
 -- the fifth words of runs that are no roots are free. Place j is of none, for L lines and n runs
@@ -136,6 +138,36 @@ module _ (s : Session) (ws : List ℕ) (S : Sound s ws) where
       let p = parentOf (linesOf s) ws in
       omega (arith, root-size p (sizeWord (linesOf s) ws) (s .figures .runs) (S .words .parents) r h e, sizes-few)
 
+  -- so all words are u32s where those are that are no group words: a parent is below the runs
+  pub sound-words-fit : ((j : ℕ) → NoGroupWord (linesOf s) (s .figures .runs) j → getD ws j 0 < 4294967296) → Words32 s ws
+  sound-words-fit others j free = go (any (λ r. eqb j (parentPlace L r)) n) refl (any (λ r. eqb j (sizePlace L r)) n) refl
+    where
+      L : ℕ
+      L = linesOf s
+
+      n : ℕ
+      n = s .figures .runs
+
+      At : ℕ → Type 0
+      At x = getD ws x 0 < 4294967296
+
+      is-root : (r : ℕ) → r < n → j ≡ sizePlace L r → Dec (rootOf (parentOf L ws) r ≡ r) → rootOf (parentOf L ws) r ≡ r
+      is-root r l q (yes z) = z
+      is-root r l q (no z) = absurd (free r l z q)
+
+      go : (b : Bool) → any (λ r. eqb j (parentPlace L r)) n ≡ b → (c : Bool) → any (λ r. eqb j (sizePlace L r)) n ≡ c → At j
+      go true e c f =
+          let r = any-found (λ r. eqb j (parentPlace L r)) n e in
+          subst At (sym (eqb-true j (parentPlace L (r .0)) (r .2))) (omega (arith, S .words .parents (r .0) (r .1), r .1, runs-fit))
+      go false e true f =
+          let r = any-found (λ r. eqb j (sizePlace L r)) n f in
+          let q = eqb-true j (sizePlace L (r .0)) (r .2) in
+          subst At (sym q) (size-fits (r .0) (r .1) (is-root (r .0) (r .1) q (ℕ-discrete (rootOf (parentOf L ws) (r .0)) (r .0))))
+      go false e false f = others j (λ r l. (
+        λ q. true≢false (sym (any-at (λ r. eqb j (parentPlace L r)) n r l (eq-eqb j (parentPlace L r) q)) ∙ e),
+        λ q. true≢false (sym (any-at (λ r. eqb j (sizePlace L r)) n r l (eq-eqb j (sizePlace L r) q)) ∙ f),
+      ))
+
   -- nor is a written number above its kind's largest
   pub numbers-fit : (kind : Number) → holds kind (rootCount s ws) ≡ true → (p : ℕ) → p < size dims → numberAt s ws p ≤ largest kind
   unfolding holds
@@ -217,39 +249,10 @@ module _ (s : Session) (ws : List ℕ) (k : ℕ) (cells : List Bool) (no-cause :
       )) j
       (setAll-fits _ _ k ws (λ i h. start-fits (s .fed + suc i) (omega arith)) j before))
 
-  parent-fits : (r : ℕ) → r < after → parentOf L ws′ r < 4294967296
-  unfolding feedRecord
-  parent-fits r h = omega (arith, W .parents r h, runs-fit (feedRecord s ws k cells) ws′ S′)
-
-  root-fits : (r : ℕ) → r < after → rootOf (parentOf L ws′) r ≡ r → sizeWord L ws′ r < 4294967296
+  pub feed-fits : Words32 (feedRecord s ws k cells) ws′
   unfolding feedRecord shapeOf
-  root-fits r h e = size-fits (feedRecord s ws k cells) ws′ S′ r h e
-
-  -- a word is a parent, a size that is a root's, or none of these
-  pub feed-fits : (j : ℕ) → NotFree L after ws′ j → getD ws′ j 0 < 4294967296
-  feed-fits j free = go (any (λ r. eqb j (parentPlace L r)) after) refl (any (λ r. eqb j (sizePlace L r)) after) refl
-    where
-      At : ℕ → Type 0
-      At x = getD ws′ x 0 < 4294967296
-
-      go : (b : Bool) → any (λ r. eqb j (parentPlace L r)) after ≡ b → (c : Bool) → any (λ r. eqb j (sizePlace L r)) after ≡ c → At j
-      go true e c f =
-          let r = any-found (λ r. eqb j (parentPlace L r)) after e in
-          subst At (sym (eqb-true j (parentPlace L (r .0)) (r .2))) (parent-fits (r .0) (r .1))
-      go false e true f =
-          let r = any-found (λ r. eqb j (sizePlace L r)) after f in
-          let q = eqb-true j (sizePlace L (r .0)) (r .2) in
-          subst At (sym q) (root-fits (r .0) (r .1) (is-root (r .0) (r .1) q (ℕ-discrete (rootOf (parentOf L ws′) (r .0)) (r .0))))
-        where
-          is-root : (r : ℕ) → r < after → j ≡ sizePlace L r → Dec (rootOf (parentOf L ws′) r ≡ r) → rootOf (parentOf L ws′) r ≡ r
-          is-root r l q (yes z) = z
-          is-root r l q (no z) = absurd (free r l z q)
-      go false e false f =
-          let no-word : NoGroupWord L after j = λ r l. (
-            λ q. true≢false (sym (any-at (λ r. eqb j (parentPlace L r)) after r l (eq-eqb j (parentPlace L r) q)) ∙ e),
-            λ q. true≢false (sym (any-at (λ r. eqb j (sizePlace L r)) after r l (eq-eqb j (sizePlace L r) q)) ∙ f),
-          ) in
-          rw (W .others j no-word) (with-runs j (fits j (λ r l ne. no-word r (unfold runsAfter in omega arith) .1)))
+  feed-fits = sound-words-fit (feedRecord s ws k cells) ws′ S′
+      (λ j free. rw (W .others j free) (with-runs j (fits j (λ r l ne. free r (unfold runsAfter in omega arith) .1))))
 
 -- ---- the promises, on every record: words stay u32s
 
@@ -260,9 +263,29 @@ feed-words-fit s ws k cells a s′ ws′ P fits = go (feedCauseOf s ws k cells) 
     go : (c : ℕ) → feedCauseOf s ws k cells ≡ c → Words32 s′ ws′
     go zero e = subst (λ (x : Session). Words32 x ws′)
         (sym (P .session ∙ kept-new s (feedRecord s ws k cells) (feedCauseOf s ws k cells) e))
-        (unfold feedRecord shapeOf in feed-fits s ws k cells e fits ws′ (P .accepted e))
+        (feed-fits s ws k cells e fits ws′ (P .accepted e))
     go (suc c) e =
         subst (λ (x : Session). Words32 x ws′) (sym (P .session ∙ kept-old s (feedRecord s ws k cells) (feedCauseOf s ws k cells) c e))
+        (subst (Words32 s) (sym (P .refusal (omega arith))) fits)
+
+pub widen-words-fit : (s : Session) (ws structure : List ℕ) (a : Answer) (s′ : Session) (ws′ : List ℕ)
+    → WidenPromise s ws structure a s′ ws′ → Words32 s ws → Words32 s′ ws′
+widen-words-fit s ws structure a s′ ws′ P fits = go (widenCauseOf s ws structure) refl
+  where
+    new : Session
+    new = widenRecord s ws structure
+
+    all-fit : WidenWords s ws structure ws′ → Sound new ws′ → Words32 new ws′
+    all-fit W S = sound-words-fit new ws′ S
+        (unfold widenRecord shapeOf in λ j free. rw (W .others j free) (fits j (λ r l ne. free r l .1)))
+
+    go : (c : ℕ) → widenCauseOf s ws structure ≡ c → Words32 s′ ws′
+    go zero e =
+        let W = P .accepted e in
+        subst (λ (x : Session). Words32 x ws′) (sym (P .session ∙ kept-new s new (widenCauseOf s ws structure) e))
+        (all-fit W (widened-sound s ws structure (cause-widens s ws structure e) ws′ W))
+    go (suc c) e =
+        subst (λ (x : Session). Words32 x ws′) (sym (P .session ∙ kept-old s new (widenCauseOf s ws structure) c e))
         (subst (Words32 s) (sym (P .refusal (omega arith))) fits)
 
 -- names are written where there is no cause, and then the record is sound

@@ -12,13 +12,13 @@ use Rattle.groups.proofs.RepLaws.{Ends}
 use Rattle.groups.proofs.VisitLaws.{ends-visit, rep-still}
 use Rattle.frame.specs.Touches.{frameTouches}
 use Rattle.frame.specs.Kinds.{Cells, flags, Number, Value}
-use Rattle.frame.specs.Plain.{Call, feed, read, sizes, Answer, fed, counted, nothing, numbers, counts, Answered, written, unless, kept}
-use Rattle.frame.specs.Plain.{feeds, groupsOf, figures, cause, answer, answered, next}
+use Rattle.frame.specs.Plain.{Call, feed, read, sizes, widen, Answer, fed, counted, nothing, numbers, counts, Answered, written, unless}
+use Rattle.frame.specs.Plain.{kept, State, feeds, widens, groupsOf, figures, cause, answer, answered, changed, next}
 use Rattle.frame.specs.Runs.{Run, runLength}
 use Rattle.frame.specs.Words.{parentOf, sizeWord, storedRun}
 use Rattle.frame.proofs.RunGroupLaws.{touches-runs}
 use Rattle.frame.proofs.GrowLaws.{rep-grow}
-use Rattle.frame.proofs.PlainLaws.{unless-same, kept-old, kept-same, next-feeds, next-stays}
+use Rattle.frame.proofs.PlainLaws.{unless-same, kept-new, kept-old, kept-same, next-accepted, next-refused, next-stays, widens-opened}
 use Rattle.forest.specs.Forest.{rootOf, Sums}
 use Rattle.forest.proofs.ForestLaws.{root-le, grouping-rep, grouping-rep-all}
 use Rattle.forest.proofs.SizeLaws.{sums-same, brought-over}
@@ -28,15 +28,17 @@ use Rattle.label.specs.Sound.{Sound, sound}
 use Rattle.label.specs.Held.{cellsOf, groupingOf}
 use Rattle.label.specs.Feeding.{runsAfter, runAfter, feedBrings, feedTouches, feedEdges, feedRecord, feedCauseOf}
 use Rattle.label.specs.Feeding.{FeedWords, FeedPromise}
+use Rattle.label.specs.Widening.{widenCauseOf, widenRecord, WidenWords, WidenPromise}
 use Rattle.label.specs.Reading.{withNames, countedOf, readCauseOf, ReadPromise, sizesCauseOf, SizesPromise}
-use Rattle.label.specs.Steps.{FeedAccepted}
+use Rattle.label.specs.Steps.{FeedAccepted, WidenAccepted}
 use Rattle.label.proofs.SoundLaws.{right-sound}
-use Rattle.label.proofs.AcceptedLaws.{cause-accepted, accepted-session}
+use Rattle.label.proofs.AcceptedLaws.{cause-accepted, accepted-cause, cause-widens}
 use Rattle.label.proofs.StoreLaws.{Stores, stores-cells}
 use Rattle.label.proofs.SoundCells.{sound-stores}
 use Rattle.label.proofs.FeedLaws.{feed-shape, touches-after, stores-after}
 use Rattle.label.proofs.FeedSizeLaws.{run-old, fed-sums, ran-after, sound-after}
 use Rattle.label.proofs.NameLaws.{parents-stand, sizes-stand, runs-stand, cells-named, sound-named}
+use Rattle.label.proofs.WidenLaws.{reopened, reopened-accepted, reopened-inv, reopened-state, widened-record, widened-words}
 use Rattle.label.proofs.Invariant.{stateOf, visited, lengthOf, Inv, inv-runs, inv-n, inv-figures, inv-numbers, inv-sizes}
 
 -- ---- a feed that is accepted
@@ -121,6 +123,44 @@ module _ (s : Session) (ws : List ℕ) (I : Inv s ws) (k : ℕ) (more : List Boo
   unfolding feedRecord shapeOf
   fed-figures = inv-figures (feedRecord s ws k more) ws′ fed-inv ∙ ap (figures (shapeOf s)) fed-state
 
+-- ---- a structure change that is accepted: of a sound record, whatever its origin
+
+pub widened-shape : (s : Session) (ws structure : List ℕ) → shapeOf (widenRecord s ws structure) ≡ shapeOf s
+unfolding widenRecord shapeOf
+widened-shape s ws structure = refl
+
+module _ (s : Session) (ws structure : List ℕ) (G : WidenAccepted s ws structure) (ws′ : List ℕ) (W : WidenWords s ws structure ws′) where
+  -- the session opened anew, and then fed the lines held
+  abbrev s₀ : Session
+  s₀ = reopened s structure
+
+  no-cause : feedCauseOf s₀ ws (s .fed) (cellsOf s ws) ≡ 0
+  no-cause = accepted-cause s₀ ws (s .fed) (cellsOf s ws) (reopened-accepted s ws structure G)
+
+  I₀ : Inv s₀ ws
+  I₀ = reopened-inv s ws structure G
+
+  W₀ : FeedWords s₀ ws (s .fed) (cellsOf s ws) ws′
+  W₀ = widened-words s ws structure G ws′ W
+
+  -- the invariant holds, whatever held before
+  pub widened-inv : Inv (widenRecord s ws structure) ws′
+  widened-inv = subst (λ (x : Session). Inv x ws′) (widened-record s ws structure G)
+      (fed-inv s₀ ws I₀ (s .fed) (cellsOf s ws) no-cause ws′ W₀)
+
+  -- the lines stand, and the structure is the new one
+  pub widened-state : stateOf (widenRecord s ws structure) ws′ ≡ widens (stateOf s ws) structure
+  widened-state =
+      ap (λ (x : Session). stateOf x ws′) (sym (widened-record s ws structure G))
+      ∙ fed-state s₀ ws I₀ (s .fed) (cellsOf s ws) no-cause ws′ W₀
+      ∙ ap (λ (p : State). feeds p (s .fed) (cellsOf s ws)) (reopened-state s ws structure G)
+      ∙ sym (widens-opened (stateOf s ws) structure)
+
+  pub widened-figures : widenRecord s ws structure .figures ≡ figures (shapeOf s) (widens (stateOf s ws) structure)
+  widened-figures =
+      inv-figures (widenRecord s ws structure) ws′ widened-inv
+      ∙ ap₂ figures (widened-shape s ws structure) widened-state
+
 -- ---- the calls
 
 -- a call is answered as by the plain session, and leaves a record that holds the next state of it
@@ -130,9 +170,39 @@ pub record Follows (s : Session) (ws : List ℕ) (c : Call) (a : Answered) (s′
   pub shaped : shapeOf s′ ≡ shapeOf s
   pub state : stateOf s′ ws′ ≡ next (shapeOf s) (stateOf s ws) c
 
+-- what an accepted call leaves that changes the record
+record Leaves (s : Session) (ws : List ℕ) (c : Call) (s′ : Session) (ws′ : List ℕ) : Type 0 where
+  keeps : Inv s′ ws′
+  shaped : shapeOf s′ ≡ shapeOf s
+  state : stateOf s′ ws′ ≡ changed (shapeOf s) (stateOf s ws) c
+
 module _ (s : Session) (ws : List ℕ) (I : Inv s ws) where
   is-sound : sound s ws ≡ true
   is-sound = right-sound s ws (I .is-sound)
+
+  -- a call that writes no output: d is its cause, and `new` the record where there is none
+  changes-follow : (c : Call) (d : ℕ) (a : Answer) (new s′ : Session) (ws′ : List ℕ) → d ≡ cause (shapeOf s) (stateOf s ws) c
+      → record { said = a; written = nothing } ≡ answered (shapeOf s) (stateOf s ws) c → s′ ≡ kept d s new → (0 < d → ws′ ≡ ws)
+      → (d ≡ 0 → Leaves s ws c new ws′) → Follows s ws c (record { said = a; written = nothing }) s′ ws′
+  changes-follow c zero a new s′ ws′ is says session stands goes =
+      let G = goes refl in
+      subst (λ (x : Session). Follows s ws c (record { said = a; written = nothing }) x ws′) (sym (session ∙ kept-new s new 0 refl))
+      (record {
+        same = says;
+        keeps = G .keeps;
+        shaped = G .shaped;
+        state = G .state ∙ sym (next-accepted (shapeOf s) (stateOf s ws) c (sym is));
+      })
+  changes-follow c (suc d) a new s′ ws′ is says session stands goes =
+      subst (λ (x : Session). Follows s ws c (record { said = a; written = nothing }) x ws′)
+      (sym (session ∙ kept-old s new (suc d) d refl))
+      (subst (λ (vs : List ℕ). Follows s ws c (record { said = a; written = nothing }) s vs) (sym (stands (omega arith)))
+      (record {
+        same = says;
+        keeps = I;
+        shaped = refl;
+        state = sym (next-refused (shapeOf s) (stateOf s ws) c d (sym is));
+      }))
 
   -- ---- feed
 
@@ -150,36 +220,41 @@ module _ (s : Session) (ws : List ℕ) (I : Inv s ws) where
 
   pub feed-follows : (k : ℕ) (cells : Cells) (a : Answer) (s′ : Session) (ws′ : List ℕ) → FeedPromise s ws k (flags cells) a s′ ws′
       → Follows s ws (feed k cells) (record { said = a; written = nothing }) s′ ws′
-  unfolding written
-  feed-follows k cells a s′ ws′ P = go (feedCauseOf s ws k (flags cells)) refl
-    where
-      says : record { said = a; written = nothing } ≡ answered (shapeOf s) (stateOf s ws) (feed k cells)
-      says = ap (λ (x : Answer). record { said = x; written = nothing }) (feed-said k cells a s′ ws′ P)
+  unfolding written changed
+  feed-follows k cells a s′ ws′ P =
+      changes-follow (feed k cells) (feedCauseOf s ws k (flags cells)) a (feedRecord s ws k (flags cells)) s′ ws′ (feed-cause k cells)
+      (ap (λ (x : Answer). record { said = x; written = nothing }) (feed-said k cells a s′ ws′ P)) (P .session) (P .refusal)
+      (λ e. record {
+        keeps = fed-inv s ws I k (flags cells) e ws′ (P .accepted e);
+        shaped = feed-shape s ws k (flags cells);
+        state = fed-state s ws I k (flags cells) e ws′ (P .accepted e);
+      })
 
-      go : (c : ℕ) → feedCauseOf s ws k (flags cells) ≡ c → Follows s ws (feed k cells) (record { said = a; written = nothing }) s′ ws′
-      go zero e =
-          let to = accepted-session s ws k (flags cells) (cause-accepted s ws k (flags cells) e) a s′ ws′ P in
-          subst (λ (x : Session). Follows s ws (feed k cells) (record { said = a; written = nothing }) x ws′) (sym to)
-          (record {
-            same = says;
-            keeps = fed-inv s ws I k (flags cells) e ws′ (P .accepted e);
-            shaped = feed-shape s ws k (flags cells);
-            state =
-                fed-state s ws I k (flags cells) e ws′ (P .accepted e)
-                ∙ sym (next-feeds (shapeOf s) (stateOf s ws) k cells (sym (feed-cause k cells) ∙ e));
-          })
-      go (suc c) e =
-          let to = P .session ∙ kept-old s (feedRecord s ws k (flags cells)) (feedCauseOf s ws k (flags cells)) c e in
-          let stand = P .refusal (rw e (omega arith)) in
-          subst (λ (x : Session). Follows s ws (feed k cells) (record { said = a; written = nothing }) x ws′) (sym to)
-          (subst (λ (vs : List ℕ). Follows s ws (feed k cells) (record { said = a; written = nothing }) s vs) (sym stand)
-          (record {
-            same = says;
-            keeps = I;
-            shaped = refl;
-            state =
-                sym (next-stays (shapeOf s) (stateOf s ws) k cells c (sym (feed-cause k cells) ∙ e));
-          }))
+  -- ---- structure change
+
+  pub widen-cause : (structure : List ℕ) → widenCauseOf s ws structure ≡ cause (shapeOf s) (stateOf s ws) (widen structure)
+  unfolding widenCauseOf cause
+  widen-cause structure = rw is-sound refl
+
+  widen-said : (structure : List ℕ) (a : Answer) (s′ : Session) (ws′ : List ℕ) → WidenPromise s ws structure a s′ ws′
+      → a ≡ unless (cause (shapeOf s) (stateOf s ws) (widen structure)) (answer (shapeOf s) (stateOf s ws) (widen structure))
+  unfolding answer
+  widen-said structure a s′ ws′ P =
+      P .said
+      ∙ unless-same (widenCauseOf s ws structure) _ _ _ (widen-cause structure)
+      (λ e. ap (fed (s .fed)) (widened-figures s ws structure (cause-widens s ws structure e) ws′ (P .accepted e)))
+
+  pub widen-follows : (structure : List ℕ) (a : Answer) (s′ : Session) (ws′ : List ℕ) → WidenPromise s ws structure a s′ ws′
+      → Follows s ws (widen structure) (record { said = a; written = nothing }) s′ ws′
+  unfolding written changed
+  widen-follows structure a s′ ws′ P =
+      changes-follow (widen structure) (widenCauseOf s ws structure) a (widenRecord s ws structure) s′ ws′ (widen-cause structure)
+      (ap (λ (x : Answer). record { said = x; written = nothing }) (widen-said structure a s′ ws′ P)) (P .session) (P .refusal)
+      (λ e. record {
+        keeps = widened-inv s ws structure (cause-widens s ws structure e) ws′ (P .accepted e);
+        shaped = widened-shape s ws structure;
+        state = widened-state s ws structure (cause-widens s ws structure e) ws′ (P .accepted e);
+      })
 
   -- ---- reading and sizes: the record stays, and name words are no part of the state
 
@@ -226,13 +301,13 @@ module _ (s : Session) (ws : List ℕ) (I : Inv s ws) where
 
     pub read-follows : (a : Answer) (s′ : Session) (ws′ : List ℕ) (out′ : List (Value kind)) → ReadPromise kind s ws out a s′ ws′ out′
         → Follows s ws (read kind out) (record { said = a; written = numbers kind out′ }) s′ ws′
-    unfolding answer written next
+    unfolding answer written changed
     read-follows a s′ ws′ out′ P =
         named-follows (read kind out) (readCauseOf kind s ws (length out)) (record { said = a; written = numbers kind out′ }) s′ ws′
         (ap₂ (λ (x : Answer) (o : List (Value kind)). record { said = x; written = numbers kind o })
         (P .said ∙ unless-same (readCauseOf kind s ws (length out)) _ _ _ read-cause (λ e. counted-same))
         (P .output ∙ kept-same (readCauseOf kind s ws (length out)) _ out _ _ read-cause (λ e. inv-numbers s ws I kind)))
-        (P .session) (P .words) refl
+        (P .session) (P .words) (next-stays (shapeOf s) (stateOf s ws) _ refl)
 
   module _ (out : List ℕ) where
     pub sizes-cause : sizesCauseOf s ws (length out) ≡ cause (shapeOf s) (stateOf s ws) (sizes out)
@@ -241,10 +316,10 @@ module _ (s : Session) (ws : List ℕ) (I : Inv s ws) where
 
     pub sizes-follows : (a : Answer) (s′ : Session) (ws′ out′ : List ℕ) → SizesPromise s ws out a s′ ws′ out′
         → Follows s ws (sizes out) (record { said = a; written = counts out′ }) s′ ws′
-    unfolding answer written next
+    unfolding answer written changed
     sizes-follows a s′ ws′ out′ P =
         named-follows (sizes out) (sizesCauseOf s ws (length out)) (record { said = a; written = counts out′ }) s′ ws′
         (ap₂ (λ (x : Answer) (o : List ℕ). record { said = x; written = counts o })
         (P .said ∙ unless-same (sizesCauseOf s ws (length out)) _ _ _ sizes-cause (λ e. counted-same))
         (P .output ∙ kept-same (sizesCauseOf s ws (length out)) _ out _ _ sizes-cause (λ e. inv-sizes s ws I)))
-        (P .session) (P .words) refl
+        (P .session) (P .words) (next-stays (shapeOf s) (stateOf s ws) _ refl)

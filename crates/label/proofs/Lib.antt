@@ -18,6 +18,7 @@ pub mod WrittenNumbers
 pub mod WrittenSizes
 pub mod Invariant
 pub mod GroupedLaws
+pub mod WidenLaws
 pub mod KeepLaws
 pub mod OpenLaws
 pub mod FeedNoneLaws
@@ -26,6 +27,7 @@ pub mod CallFunctions
 pub mod MeetLaws
 pub mod FitLaws
 pub mod FeedBlockLaws
+pub mod WidenBlockLaws
 pub mod FrameLaws
 pub mod OnlyLaws
 pub mod WholeFrames

@@ -1,7 +1,6 @@
 -- The plain functions meet the promises, whatever they are given.
 -- Assumes nothing.
 use mathlib.Core.Path.{_≡_, refl, sym, _∙_, subst}
-use mathlib.Core.Logic.{_≢_}
 use mathlib.Core.Bool.{Bool}
 use mathlib.Core.List.{List, [], _∷_}
 use Prim.Native.Nat.{ℕ, zero, suc, _-_, _*_, _≤_, _<_}
@@ -13,25 +12,28 @@ use Rattle.groups.proofs.RepLaws.{rep-le}
 use Rattle.frame.specs.Shape.{lines}
 use Rattle.frame.specs.Kinds.{Number, Value}
 use Rattle.frame.specs.Plain.{kept}
-use Rattle.frame.specs.Words.{parentPlace, sizePlace, parentOf, sizeWord}
-use Rattle.frame.specs.Lists.{sum}
+use Rattle.frame.specs.Words.{parentPlace, sizePlace, parentOf, sizeWord, NoGroupWord}
+use Rattle.frame.specs.Lists.{sum, setAll}
 use Rattle.frame.proofs.PlainLaws.{kept-new, kept-old}
 use Rattle.frame.proofs.SetLaws.{length-setAll, setAll-other, setAll-at}
+use Rattle.forest.specs.Forest.{rootOf}
 use Rattle.forest.proofs.ForestLaws.{canonical-root}
 use Rattle.label.specs.declared.Session.{Session}
 use Rattle.label.specs.Record.{linesOf}
 use Rattle.label.specs.Held.{cellsOf}
 use Rattle.label.specs.Opening.{openRecord, openWords, OpenPromise}
 use Rattle.label.specs.Feeding.{runsAfter, feedEdges, sizeAfter, withRuns, feedCauseOf, FeedWords, FeedPromise}
+use Rattle.label.specs.Widening.{widenCauseOf, widenEdges, widenSize, WidenWords, WidenPromise}
 use Rattle.label.specs.Reading.{withNames, ReadPromise, SizesPromise}
 use Rattle.label.specs.WholeFrame.{Fills, no-more, block, earlyCauseOf, frameCauseOf, FramePromise}
 use Rattle.label.specs.Steps.{FeedAccepted}
-use Rattle.label.proofs.AcceptedLaws.{cause-accepted}
+use Rattle.label.proofs.AcceptedLaws.{cause-accepted, cause-widens}
 use Rattle.label.proofs.SoundCells.{sound-stores}
 use Rattle.label.proofs.FeedWordLaws.{length-withRuns}
 use Rattle.label.proofs.FeedLaws.{room}
 use Rattle.label.proofs.FeedNoneLaws.{words-none}
-use Rattle.label.proofs.CallFunctions.{FeedResult, doOpen, withParents, withSizes, feedWords, doFeed, doRead, doSizes, frameFeed}
+use Rattle.label.proofs.WrittenNumbers.{names-ready}
+use Rattle.label.proofs.CallFunctions.{FeedResult, doOpen, regrouped, feedWords, doFeed, doWiden, doRead, doSizes, frameFeed}
 use Rattle.label.proofs.CallFunctions.{doFrame}
 
 -- ---- opening, reading, sizes: the functions are the promises' equations
@@ -52,72 +54,79 @@ pub sizes-met : (s : Session) (ws out : List ℕ)
 unfolding doSizes
 sizes-met s ws out = record { said = refl; session = refl; words = refl; output = refl }
 
--- ---- feeding
+-- ---- groups: parents and sizes are set, and every other word stands
 
-module _ (s : Session) (ws : List ℕ) (k : ℕ) (cells : List Bool) (no-cause : feedCauseOf s ws k cells ≡ 0) where
-  -- L, the runs afterwards and their grouping
-  abbrev L : ℕ
-  L = linesOf s
+module _ (L n : ℕ) (es : List Edge) (size : ℕ → ℕ) (ws : List ℕ) (room : (r : ℕ) → r < n → sizePlace L r < length ws) where
+  -- with the parents set, and with the sizes too
+  abbrev vs : List ℕ
+  vs = setAll (parentPlace L) (rep es) n ws
 
-  abbrev after : ℕ
-  after = runsAfter s cells
+  abbrev ws′ : List ℕ
+  ws′ = regrouped L n es size ws
 
-  abbrev es : List Edge
-  es = feedEdges s ws k cells
+  length-regrouped : length ws′ ≡ length ws
+  unfolding regrouped
+  length-regrouped = length-setAll _ _ n vs ∙ length-setAll _ _ n ws
 
-  G : FeedAccepted s ws k cells
-  G = cause-accepted s ws k cells no-cause
-
-  size-fits : (r : ℕ) → r < after → sizePlace L r < length ws
-  size-fits r l = room s ws (cellsOf s ws) (sound-stores s ws (G .is-sound)) k cells (G .few) (G .whole) (G .is-sound .shape .memory) r l
-
-  length-parents : length (withParents s ws k cells) ≡ length ws
-  unfolding withParents
-  length-parents = length-setAll _ _ after (withRuns s ws k cells) ∙ length-withRuns s ws k cells
-
-  length-sizes : length (withSizes s ws k cells) ≡ length (withParents s ws k cells)
-  unfolding withSizes
-  length-sizes = length-setAll _ _ after (withParents s ws k cells)
-
-  parents-other : (j : ℕ) → ((r : ℕ) → r < after → j ≢ parentPlace L r)
-      → getD (withParents s ws k cells) j 0 ≡ getD (withRuns s ws k cells) j 0
-  unfolding withParents
-  parents-other j h = setAll-other (parentPlace L) (rep es) after (withRuns s ws k cells) j h
-
-  -- setting sizes leaves the other words
-  sizes-other : (j : ℕ) → ((r : ℕ) → r < after → j ≢ sizePlace L r)
-      → getD (withSizes s ws k cells) j 0 ≡ getD (withParents s ws k cells) j 0
-  unfolding withSizes
-  sizes-other j h = setAll-other (sizePlace L) (sizeAfter s ws k cells) after (withParents s ws k cells) j h
+  regrouped-other : (j : ℕ) → NoGroupWord L n j → getD ws′ j 0 ≡ getD ws j 0
+  unfolding regrouped
+  regrouped-other j free = setAll-other (sizePlace L) size n vs j (λ r l. free r l .1)
+      ∙ setAll-other (parentPlace L) (rep es) n ws j (λ r l. free r l .0)
 
   -- each parent is its group's smallest run
-  parent-is : (r : ℕ) → r < after → parentOf L (withSizes s ws k cells) r ≡ rep es r
-  unfolding withParents
+  parent-is : (r : ℕ) → r < n → parentOf L ws′ r ≡ rep es r
+  unfolding regrouped
   parent-is r l =
-      sizes-other (parentPlace L r) (λ q h. omega arith)
-      ∙ setAll-at (parentPlace L) (rep es) after (withRuns s ws k cells) (λ i j a b e. omega arith) r l
-      (rw (length-withRuns s ws k cells) (omega (arith, size-fits r l)))
+      setAll-other (sizePlace L) size n vs (parentPlace L r) (λ q h. omega arith)
+      ∙ setAll-at (parentPlace L) (rep es) n ws (λ i j a b e. omega arith) r l (omega (arith, room r l))
 
-  size-is : (r : ℕ) → r < after → sizeWord L (withSizes s ws k cells) r ≡ sizeAfter s ws k cells r
-  unfolding withSizes
-  size-is r l = setAll-at (sizePlace L) (sizeAfter s ws k cells) after (withParents s ws k cells) (λ i j a b e. omega arith) r l
-      (rw length-parents (size-fits r l))
+  size-is : (r : ℕ) → r < n → sizeWord L ws′ r ≡ size r
+  unfolding regrouped
+  size-is r l = setAll-at (sizePlace L) size n vs (λ i j a b e. omega arith) r l
+      (rw (length-setAll (parentPlace L) (rep es) n ws) (room r l))
 
-  with-sizes : 0 < k → FeedWords s ws k cells (withSizes s ws k cells)
-  with-sizes some = record {
-    long = length-sizes ∙ length-parents;
-    others = λ j free. sizes-other j (λ r l. free r l .1) ∙ parents-other j (λ r l. free r l .0);
-    parents = λ r l. rw (parent-is r l) (rep-le es r);
-    grouped = canonical-root (parentOf L (withSizes s ws k cells)) es after parent-is;
-    sized = λ r l e. size-is r l;
-    no-lines = λ e. absurd (omega arith);
-  }
+  parent-low : (r : ℕ) → r < n → parentOf L ws′ r ≤ r
+  parent-low r l = rw (parent-is r l) (rep-le es r)
+
+  root-is : (r : ℕ) → r < n → rootOf (parentOf L ws′) r ≡ rep es r
+  root-is = canonical-root (parentOf L ws′) es n parent-is
+
+-- ---- feeding
 
 words-met : (s : Session) (ws : List ℕ) (k : ℕ) (cells : List Bool) → feedCauseOf s ws k cells ≡ 0
     → FeedWords s ws k cells (feedWords s ws k cells)
 unfolding feedWords
 words-met s ws zero cells no-cause = words-none s ws cells (cause-accepted s ws 0 cells no-cause)
-words-met s ws (suc k) cells no-cause = with-sizes s ws (suc k) cells no-cause (omega arith)
+words-met s ws (suc k) cells no-cause = record {
+  long = length-regrouped L n es size vs fits ∙ length-withRuns s ws (suc k) cells;
+  others = regrouped-other L n es size vs fits;
+  parents = parent-low L n es size vs fits;
+  grouped = root-is L n es size vs fits;
+  sized = λ r l e. size-is L n es size vs fits r l;
+  no-lines = λ e. absurd (omega arith);
+}
+  where
+    G : FeedAccepted s ws (suc k) cells
+    G = cause-accepted s ws (suc k) cells no-cause
+
+    L : ℕ
+    L = linesOf s
+
+    n : ℕ
+    n = runsAfter s cells
+
+    es : List Edge
+    es = feedEdges s ws (suc k) cells
+
+    size : ℕ → ℕ
+    size = sizeAfter s ws (suc k) cells
+
+    vs : List ℕ
+    vs = withRuns s ws (suc k) cells
+
+    fits : (r : ℕ) → r < n → sizePlace L r < length vs
+    fits r l = rw (length-withRuns s ws (suc k) cells)
+        (room s ws (cellsOf s ws) (sound-stores s ws (G .is-sound)) (suc k) cells (G .few) (G .whole) (G .is-sound .shape .memory) r l)
 
 pub feed-met : (s : Session) (ws : List ℕ) (k : ℕ) (cells : List Bool)
     → FeedPromise s ws k cells (doFeed s ws k cells .said) (doFeed s ws k cells .session) (doFeed s ws k cells .words)
@@ -128,6 +137,45 @@ feed-met s ws k cells = record {
   refusal = λ h. kept-old ws (feedWords s ws k cells) (feedCauseOf s ws k cells) (feedCauseOf s ws k cells - 1) (omega arith);
   accepted = λ e. rw (kept-new ws (feedWords s ws k cells) (feedCauseOf s ws k cells) e) (words-met s ws k cells e);
 }
+
+-- ---- structure change
+
+pub widen-met : (s : Session) (ws structure : List ℕ)
+    → WidenPromise s ws structure (doWiden s ws structure .said) (doWiden s ws structure .session) (doWiden s ws structure .words)
+unfolding doWiden
+widen-met s ws structure = record {
+  said = refl;
+  session = refl;
+  refusal = λ h. kept-old ws vs (widenCauseOf s ws structure) (widenCauseOf s ws structure - 1) (omega arith);
+  accepted = λ e. rw (kept-new ws vs (widenCauseOf s ws structure) e) (words (fits e));
+}
+  where
+    L : ℕ
+    L = linesOf s
+
+    n : ℕ
+    n = s .figures .runs
+
+    es : List Edge
+    es = widenEdges s ws structure
+
+    size : ℕ → ℕ
+    size = widenSize s ws structure
+
+    vs : List ℕ
+    vs = regrouped L n es size ws
+
+    fits : widenCauseOf s ws structure ≡ 0 → (r : ℕ) → r < n → sizePlace L r < length ws
+    fits e r l = omega (arith, names-ready s ws (cause-widens s ws structure e .is-sound) .room)
+
+    words : ((r : ℕ) → r < n → sizePlace L r < length ws) → WidenWords s ws structure vs
+    words room = record {
+      long = length-regrouped L n es size ws room;
+      others = regrouped-other L n es size ws room;
+      parents = parent-low L n es size ws room;
+      grouped = root-is L n es size ws room;
+      sized = λ r l e. size-is L n es size ws room r l;
+    }
 
 -- ---- whole frames
 

@@ -24,6 +24,7 @@ use Rattle.label.specs.declared.Session.{Session}
 use Rattle.label.specs.Record.{shapeOf, linesOf}
 use Rattle.label.specs.Opening.{openRecord, openWords, OpenPromise}
 use Rattle.label.specs.Feeding.{runsAfter, feedRecord, feedCauseOf, FeedWords, FeedPromise}
+use Rattle.label.specs.Widening.{widenCauseOf, WidenPromise}
 use Rattle.label.specs.Reading.{withNames, ReadPromise, SizesPromise}
 use Rattle.label.specs.WholeFrame.{earlyCauseOf, frameCauseOf, FrameWords, FramePromise}
 use Rattle.label.proofs.FeedLaws.{feed-shape}
@@ -85,6 +86,27 @@ feed-only s ws k cells a b s′ t ws′ vs P Q = (P .said ∙ sym (Q .said), P .
     go (suc c) e =
         let some : 0 < feedCauseOf s ws k cells = omega arith in
         alike (linesOf s) (runsAfter s cells) ws′ vs (P .refusal some ∙ sym (Q .refusal some))
+
+-- a structure change: the same are free
+pub widen-only : (s : Session) (ws structure : List ℕ) (a b : Answer) (s′ t : Session) (ws′ vs : List ℕ)
+    → WidenPromise s ws structure a s′ ws′ → WidenPromise s ws structure b t vs → (a ≡ b) × (s′ ≡ t) × Alike (linesOf s)
+    (s .figures .runs) ws′ vs
+widen-only s ws structure a b s′ t ws′ vs P Q =
+    (P .said ∙ sym (Q .said), P .session ∙ sym (Q .session), go (widenCauseOf s ws structure) refl)
+  where
+    go : (c : ℕ) → widenCauseOf s ws structure ≡ c → Alike (linesOf s) (s .figures .runs) ws′ vs
+    go zero e =
+        let X = P .accepted e in
+        let Y = Q .accepted e in
+        record {
+          long = X .long ∙ sym (Y .long);
+          words = λ j h. X .others j h ∙ sym (Y .others j h);
+          roots = λ r h. X .grouped r h ∙ sym (Y .grouped r h);
+          sizes = λ r h z. let own = sym (X .grouped r h) ∙ z in X .sized r h own ∙ sym (Y .sized r h own);
+        }
+    go (suc c) e =
+        let some : 0 < widenCauseOf s ws structure = omega arith in
+        alike (linesOf s) (s .figures .runs) ws′ vs (P .refusal some ∙ sym (Q .refusal some))
 
 -- ---- names are set alike
 

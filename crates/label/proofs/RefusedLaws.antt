@@ -22,6 +22,7 @@ use Rattle.label.specs.declared.Session.{Session}
 use Rattle.label.specs.Held.{numbersHeld, sizesHeld}
 use Rattle.label.specs.Opening.{openRecord, openWords, blank, OpenPromise}
 use Rattle.label.specs.Feeding.{feedRecord, feedCauseOf, FeedPromise}
+use Rattle.label.specs.Widening.{widenRecord, widenCauseOf, WidenPromise}
 use Rattle.label.specs.Reading.{withNames, countedOf, readCauseOf, ReadPromise, sizesCauseOf, SizesPromise}
 use Rattle.label.specs.Steps.{RecordFound}
 
@@ -79,6 +80,20 @@ module _ {s : Session} {ws : List ℕ} {k : ℕ} {cells : List Bool} {r : Checke
       record {
         said = A .1 ∙ said-no _ _ (F .number) some _ _;
         session = A .0 ∙ sym (kept-old s (feedRecord s ws k cells) _ _ z);
+        refusal = λ h. refl;
+        accepted = λ none. absurd (omega (arith, z));
+      }
+
+module _ {s : Session} {ws structure : List ℕ} {r : Checked} (F : RecordFound s (widenCauseOf s ws structure) r) {t : Bool}
+    (is : t ≡ ltb 0 (checkNumber (r .check))) (taken : t ≡ true) where
+  pub failed-widen : {s′ : Session} {a : Answer} → (s′ ≡ s) × (a ≡ unless (checkNumber (r .check)) (fed (s .fed) (s .figures)))
+      → WidenPromise s ws structure a s′ ws
+  failed-widen A =
+      let some = failed-some _ _ is taken in
+      let z = above _ _ (F .number) some in
+      record {
+        said = A .1 ∙ said-no _ _ (F .number) some _ _;
+        session = A .0 ∙ sym (kept-old s (widenRecord s ws structure) _ _ z);
         refusal = λ h. refl;
         accepted = λ none. absurd (omega (arith, z));
       }

@@ -15,11 +15,11 @@ use Rattle.frame.specs.Causes.{openCause}
 use Rattle.frame.specs.Runs.{runs}
 use Rattle.frame.specs.Kinds.{Cells, flags, Number, Value, write}
 use Rattle.frame.specs.Plain.{feed, read, Answer, fed, counted, nothing, numbers, Answered, written, unless, kept, State, opened, feeds}
-use Rattle.frame.specs.Plain.{groupsOf, figures, cause, answer, answered, next, plain}
+use Rattle.frame.specs.Plain.{groupsOf, figures, cause, answer, answered, changed, next, plain}
 use Rattle.frame.specs.Lists.{sum}
 use Rattle.frame.proofs.ShapeLaws.{size-lines}
 use Rattle.frame.proofs.CauseLaws.{accepted-feed}
-use Rattle.frame.proofs.PlainLaws.{unless-none, kept-new, next-feeds}
+use Rattle.frame.proofs.PlainLaws.{unless-none, kept-new, next-accepted}
 use Rattle.frame.proofs.ScipyLaws.{accepted-scipy}
 use Rattle.label.specs.declared.Session.{Session}
 use Rattle.label.specs.Opening.{openRecord, openWords}
@@ -97,7 +97,8 @@ module _ (kind : Number) (shape structure ws : List ℕ) (out : List (Value kind
         (frame-facts kind shape structure ws (flags cells) out no-cause .1 ∙ size-lines shape)
 
     feed-next : next shape (opened structure) (feed (lines shape) cells) ≡ whole
-    feed-next = next-feeds shape (opened structure) (lines shape) cells feed-is-accepted
+    unfolding changed
+    feed-next = next-accepted shape (opened structure) (feed (lines shape) cells) feed-is-accepted
 
     feed-said : unless (cause shape (opened structure) (feed (lines shape) cells))
         (answer shape (opened structure) (feed (lines shape) cells)) ≡ fed (lines shape) (figures shape whole)

@@ -16,7 +16,8 @@ use Rattle.frame.specs.Kinds.{largest, holds}
 use Rattle.frame.specs.Memory.{perLine, wordsNeeded}
 use Rattle.frame.specs.Words.{parentPlace, sizePlace}
 use Rattle.frame.specs.Causes.{badRank, hasZero, tooLarge, unlike, lopsided, firstCause, openTests, openCause, feedTests, feedCause}
-use Rattle.frame.specs.Causes.{readTests, readCause, sizesTests, sizesCause, frameTests, frameCause}
+use Rattle.frame.specs.Causes.{readTests, readCause, sizesTests, sizesCause, leftDiffers, dropped, notWider, widenTests, widenCause}
+use Rattle.frame.specs.Causes.{frameTests, frameCause}
 use Rattle.frame.specs.declared.Figures.{Figures}
 use Rattle.frame.specs.Plain.{unless, kept, feeds, groupsOf, figures}
 use Rattle.frame.specs.Lists.{all, every, lastBelow, entries, padded, setAll}
@@ -29,9 +30,10 @@ use Rattle.label.specs.Sound.{sound}
 use Rattle.label.specs.Held.{holdsCell, cellsOf, holderOf, rootCount, numberAt, sizesHeld}
 use Rattle.label.specs.Feeding.{runsAfter, startAfter, runAfter, feedBrings, feedTouches, feedEdges, sizeAfter, feedRecord}
 use Rattle.label.specs.Feeding.{withLines, withRuns, feedCauseOf}
+use Rattle.label.specs.Widening.{widenCauseOf, widenTouches, widenEdges, widenSize, widenRecord}
 use Rattle.label.specs.Reading.{withNames, readCauseOf, sizesCauseOf}
 use Rattle.label.specs.WholeFrame.{earlyCauseOf, frameCauseOf}
-use Rattle.label.proofs.CallFunctions.{OpenResult, FeedResult, doOpen, withParents, withSizes, feedWords, doFeed, doRead, doSizes}
+use Rattle.label.proofs.CallFunctions.{OpenResult, FeedResult, doOpen, regrouped, feedWords, doFeed, doWiden, doRead, doSizes}
 use Rattle.label.proofs.CallFunctions.{frameFeed, doFrame}
 
 -- what a computation opens
@@ -40,11 +42,12 @@ unfolding merge rep isRoot count sumOver groupSum groups joins gather pairs visi
     leftOn nonzero sameList any leadsBy edgesBy edges groupCount label range labels goesOn beginsRun runs nonzeroCells runLengths stretches
     singles lineRuns gapOf lineOf frameRuns allRuns runsBefore frameRun reaches used hasNbr nbrLine touchesBy touchesOf touches largest
     holds perLine wordsNeeded badRank hasZero tooLarge unlike lopsided firstCause openTests openCause feedTests feedCause readTests
-    readCause sizesTests sizesCause frameTests frameCause unless kept feeds groupsOf figures entries shapeOf structureOf setAll up rootOf
-    own roots nonRoots numberIn grouping rootSizes sizeList brought all every shapeSound wordsSound sound lastBelow holdsCell cellsOf
-    holderOf rootCount numberAt sizesHeld padded runsAfter startAfter runAfter feedBrings feedTouches feedEdges sizeAfter feedRecord
-    withLines withRuns feedCauseOf withNames readCauseOf sizesCauseOf earlyCauseOf frameCauseOf doOpen withParents withSizes feedWords
-    doFeed doRead doSizes frameFeed doFrame zipWith
+    readCause sizesTests sizesCause leftDiffers dropped notWider widenTests widenCause frameTests frameCause unless kept feeds groupsOf
+    figures entries shapeOf structureOf setAll up rootOf own roots nonRoots numberIn grouping rootSizes sizeList brought all every
+    shapeSound wordsSound sound lastBelow holdsCell cellsOf holderOf rootCount numberAt sizesHeld padded runsAfter startAfter runAfter
+    feedBrings feedTouches feedEdges sizeAfter feedRecord withLines withRuns feedCauseOf widenCauseOf widenTouches widenEdges widenSize
+    widenRecord withNames readCauseOf sizesCauseOf earlyCauseOf frameCauseOf doOpen regrouped feedWords doFeed doWiden doRead doSizes
+    frameFeed doFrame zipWith
 computed = tt
 
 -- ---- document 01's frame 1, fed line by line
@@ -79,6 +82,13 @@ two = doFeed (one .session) (one .words) 1 line
 
 unfoldable pub three : FeedResult
 three = doFeed (two .session) (two .words) 1 whole
+
+-- nine ones; and two lines of which the cross makes two groups, and they one
+abbrev pub ones : List ℕ
+ones = replicate 9 1
+
+unfoldable pub bud : FeedResult
+bud = doFeed (begun .session) (begun .words) 2 (true ∷ false ∷ false ∷ false ∷ true ∷ false ∷ [])
 
 -- what an output holds before
 abbrev pub junk : List ℕ

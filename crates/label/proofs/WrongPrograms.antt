@@ -15,10 +15,12 @@ use Rattle.forest.specs.Forest.{numberIn}
 use Rattle.label.specs.declared.Session.{Session}
 use Rattle.label.specs.Opening.{OpenPromise}
 use Rattle.label.specs.Feeding.{FeedPromise}
+use Rattle.label.specs.Widening.{WidenPromise}
 use Rattle.label.specs.Reading.{withNames, ReadPromise, SizesPromise}
 use Rattle.label.specs.WholeFrame.{FramePromise}
+use Rattle.label.proofs.CallFunctions.{doOpen}
 use Rattle.label.proofs.Worked.{computed, frame, cross, memory, line, whole, f, begun, one, two, junk, wide, wideWords, put, held}
-use Rattle.label.proofs.Worked.{sized, together}
+use Rattle.label.proofs.Worked.{ones, bud, sized, together}
 
 -- word j
 abbrev word : ℕ → List ℕ → ℕ
@@ -215,6 +217,79 @@ stores-refused a ws P = let z : _≡_ {A = ℕ} 4 2 = ap (λ (x : Session). x .f
 feeds-unsound : (l : ℕ) (g : Figures) (s : Session) (ws : List ℕ) → FeedPromise (two .session) (put 0 1) 1 whole (fed l g) s ws → ⊥
 unfolding begun one two computed
 feeds-unsound l g s ws P = let z : _≡_ {A = ℕ} 0 6 = ap numberSaid (P .said) in omega arith
+
+-- structure changes: from the cross to nine ones, of two runs that touch at a corner
+
+abbrev Widening : Answer → Session → List ℕ → Type 0
+Widening = WidenPromise (bud .session) (bud .words) ones
+
+-- it unites nothing
+unites-nothing : (a : Answer) (s : Session) → Widening a s (bud .words) → ⊥
+unfolding begun bud computed
+unites-nothing a s P = let z : _≡_ {A = ℕ} 1 0 = P .accepted refl .grouped 1 (omega arith) in omega arith
+
+-- it keeps the old structure in the record; it writes the old figures there, and in the answer
+keeps-structure : (a : Answer) (ws : List ℕ) → Widening a (held 2 2 1 2) ws → ⊥
+unfolding begun bud computed
+keeps-structure a ws P = let z : _≡_ {A = ℕ} 0 1 = ap (λ (x : Session). word 0 (x .structure)) (P .session) in omega arith
+
+keeps-figures : (s : Session) (a : Answer) (ws : List ℕ) → Widening a s ws → s .figures .joins ≡ 0 → ⊥
+unfolding begun bud computed
+keeps-figures s a ws P e = let z : s .figures .joins ≡ 1 = ap (λ (x : Session). x .figures .joins) (P .session) in omega arith
+
+tells-old-joins : (s : Session) (ws : List ℕ) → Widening (fed 2 (f 2 0 2)) s ws → ⊥
+unfolding begun bud computed
+tells-old-joins s ws P = let z : _≡_ {A = ℕ} 0 1 = ap joinsSaid (P .said) in omega arith
+
+-- the root's fifth word is left; a name is changed; a line's start is
+leaves-size : (a : Answer) (s : Session) (ws : List ℕ) → Widening a s ws → word (sizePlace 3 0) ws ≡ 1 → ⊥
+unfolding begun bud computed
+leaves-size a s ws P e = let z : word (sizePlace 3 0) ws ≡ 2 = P .accepted refl .sized 0 (omega arith) refl in omega arith
+
+renames : (a : Answer) (s : Session) (ws : List ℕ) → Widening a s ws → word (namePlace 3 1) ws ≡ 1 → ⊥
+unfolding begun bud computed
+renames a s ws P e =
+    let z : word (namePlace 3 1) ws ≡ 7 = P .accepted refl .others (namePlace 3 1) (λ r h. (omega arith, omega arith)) in omega arith
+
+-- of a record of other origin it unites over the grouping held; it adds to the joins; it adds to the sizes
+abbrev Dropping : Answer → Session → List ℕ → Type 0
+Dropping = WidenPromise (held 2 4 3 4) together cross
+
+keeps-groups : (a : Answer) (s : Session) → Dropping a s together → ⊥
+unfolding begun one two computed
+keeps-groups a s P = let z : _≡_ {A = ℕ} 0 1 = P .accepted refl .grouped 1 (omega arith) in omega arith
+
+adds-joins : (s : Session) (ws : List ℕ) → Dropping (fed 2 (f 4 5 4)) s ws → ⊥
+unfolding begun one two computed
+adds-joins s ws P = let z : _≡_ {A = ℕ} 5 2 = ap joinsSaid (P .said) in omega arith
+
+adds-sizes : (a : Answer) (s : Session) (ws : List ℕ) → Dropping a s ws → word (sizePlace 3 0) ws ≡ 4 → ⊥
+unfolding begun one two computed
+adds-sizes a s ws P e = let z : word (sizePlace 3 0) ws ≡ 2 = P .accepted refl .sized 0 (omega arith) refl in omega arith
+
+-- it takes a structure without an arm; one with other bytes to the sides; it answers 19 where the structure is lopsided too; refused, it
+-- has the new structure
+takes-narrower : (l : ℕ) (g : Figures) (s : Session) (ws : List ℕ)
+    → WidenPromise (bud .session) (bud .words) (set (set cross 1 0) 7 0) (fed l g) s ws → ⊥
+unfolding begun bud computed
+takes-narrower l g s ws P = let z : _≡_ {A = ℕ} 0 19 = ap numberSaid (P .said) in omega arith
+
+abbrev column : List ℕ
+column = set (set cross 3 0) 5 0
+
+takes-other-left : (l : ℕ) (g : Figures) (s : Session) (ws : List ℕ)
+    → WidenPromise (doOpen frame column (replicate 49 7) .session) (doOpen frame column (replicate 49 7) .words) ones (fed l g) s ws → ⊥
+unfolding computed
+takes-other-left l g s ws P = let z : _≡_ {A = ℕ} 0 19 = ap numberSaid (P .said) in omega arith
+
+nineteen-first : (s : Session) (ws : List ℕ) → WidenPromise (bud .session) (bud .words) (set cross 7 0) (refused 19) s ws → ⊥
+unfolding begun bud computed
+nineteen-first s ws P = let z : _≡_ {A = ℕ} 19 12 = ap numberSaid (P .said) in omega arith
+
+widens-refused : (a : Answer) (s : Session) (ws : List ℕ) → WidenPromise (bud .session) (bud .words) (set cross 4 0) a s ws
+    → word 4 (s .structure) ≡ 0 → ⊥
+unfolding begun bud computed
+widens-refused a s ws P e = let z : word 4 (s .structure) ≡ 1 = ap (λ (x : Session). word 4 (x .structure)) (P .session) in omega arith
 
 -- readings after two lines
 

@@ -4,6 +4,7 @@ pub mod Held
 pub mod Cases
 pub mod Opening
 pub mod Feeding
+pub mod Widening
 pub mod Reading
 pub mod Steps
 pub mod WholeFrame

@@ -1,13 +1,14 @@
 -- What the work of a call asks, once its check has found no cause, and what it leaves.
 -- Assumes nothing.
 use mathlib.Core.Path.{_≡_}
-use mathlib.Core.Bool.{Bool, cond}
+use mathlib.Core.Bool.{Bool, false, cond}
 use mathlib.Core.List.{List}
-use Prim.Native.Nat.{ℕ, _-_, _*_, _≤_}
+use Prim.Native.Nat.{ℕ, _-_, _*_, _^_, _≤_}
 use lib.ListN.{length}
 use Rattle.frame.specs.Shape.{size, width}
 use Rattle.frame.specs.Structure.{leftOn}
 use Rattle.frame.specs.Kinds.{Number, largest}
+use Rattle.frame.specs.Causes.{lopsided, notWider}
 use Rattle.geo.specs.declared.Geo.{Geo}
 use Rattle.geo.specs.Geometry.{GeoOf}
 use Rattle.causes.specs.declared.Checked.{Checked}
@@ -55,6 +56,15 @@ pub record SomeExtracted (s : Session) (g : Geo) (k : ℕ) (ws′ : List ℕ) (c
   pub words : List ℕ
   pub cells : List Bool
   pub extracted : FeedExtracted s words k cells g ws′ c
+
+-- ---- structure change
+
+-- a sound record, and a structure that may follow its own
+pub record WidenAccepted (s : Session) (ws structure : List ℕ) : Type 0 where
+  pub is-sound : Sound s ws
+  pub bytes : length structure ≡ 3 ^ length (shapeOf s)
+  pub not-lopsided : lopsided (length (shapeOf s)) structure ≡ false
+  pub wider : notWider (length (shapeOf s)) (structureOf s) structure ≡ false
 
 -- ---- reading
 

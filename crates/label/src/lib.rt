@@ -1,16 +1,17 @@
-// The record and its calls: opening, feeds, readings, sizes. What each call promises is in specs/: Opening, Feeding, Reading; no call
-// asks anything of its caller. WholeFrame has the promise of a whole frame, which crate whole keeps.
+// The record and its calls: opening, feeds, structure changes, readings, sizes. What each call promises is in specs/: Opening, Feeding,
+// Widening, Reading; no call asks anything of its caller. WholeFrame has the promise of a whole frame, which crate whole keeps.
 //
 //     Session::open      a record of a shape, a structure and working memory
 //     Session::feed_T    the next lines of the frame, for each kind of cell
+//     Session::widen     a wider structure, under which the session goes on
 //     Session::read_T    each cell's number, for each kind of number
 //     Session::sizes     each number's cell count
 //
 // The record is a value: a call takes it and hands it back. An enum holds no array, so an answer stands beside the record in a
 // struct. specs/Cases.antt gives document 01's values for each case, and crate causes the number of each cause.
 //
-// A call is a check and then the work: sound_check, feed_check, read_check and sizes_check find the cause, and hand on the record's
-// geometry; what follows works on a record that is known to be sound.
+// A call is a check and then the work: sound_check, feed_check, widen_check, read_check and sizes_check find the cause, and hand on the
+// record's geometry; what follows works on a record that is known to be sound.
 ghost use mathlib.Core.Path.{_≡_};
 ghost use mathlib.Core.Bool.{Bool};
 ghost use mathlib.Core.List.{List, map};
@@ -20,8 +21,10 @@ ghost use Rattle.frame.specs.Kinds.{nz, nzℤ, nzF, Number, u8, u16, u32, large
 ghost use Rattle.frame.specs.Plain.{fed, counted, unless};
 ghost use Rattle.causes.specs.Cases.{checkNumber};
 ghost use Rattle.label.specs.Cases.{openNumber, feedAnswer, readAnswer};
+ghost use Rattle.label.specs.Record.{withStructure};
 ghost use Rattle.label.specs.Opening.{OpenPromise, openRecord, blank};
 ghost use Rattle.label.specs.Feeding.{feedCauseOf, FeedPromise};
+ghost use Rattle.label.specs.Widening.{widenCauseOf, WidenPromise};
 ghost use Rattle.label.specs.Reading.{readCauseOf, sizesCauseOf, ReadPromise, SizesPromise};
 ghost use Rattle.label.specs.Steps.{soundCauseOf, RecordFound, FeedExtracted, FeedDone, SomeExtracted};
 
@@ -39,7 +42,7 @@ pub enum OpenAnswer {
     Refused(causes::Cause),
 }
 
-// A feed's: lines fed and the figures, so far.
+// A feed's and a structure change's: lines fed and the figures, so far.
 pub enum FeedAnswer {
     Accepted {
         lines: usize,
@@ -248,7 +251,7 @@ impl Session {
     }
 }
 
-// A feed that was accepted answers the record's figures, and any other its cause.
+// A feed or a structure change that was accepted answers the record's figures, and any other its cause.
 fn answer_feed(session: Session, check: causes::Check) -> Fed
     ensures { λ r. ⌜ (r .session ≡ session)
         × (feedAnswer (r .answer) ≡ unless (checkNumber check) (fed (session .fed) (session .figures))) ⌝ }
@@ -262,6 +265,53 @@ fn answer_feed(session: Session, check: causes::Check) -> Fed
         },
     };
     Fed { answer, session }
+}
+
+// ---- structure change
+
+impl Session {
+    // 6, 2, 12, 19.
+    fn widen_check(self, words: &[u32], structure: &[u8]) -> causes::Checked
+        ensures { λ r. ⌜ RecordFound self (widenCauseOf self (now (words .entry)) (now (structure .entry))) r ⌝ }
+    {
+        let found = self.sound_check(words);
+        let sound = found.check;
+        if sound.failed() {
+            return found;
+        }
+        let geo = found.geo;
+        let check = causes::widen_check(self.rank, &self.structure, structure);
+        causes::Checked { check, geo }
+    }
+
+    // Goes on under a wider structure: the stored lines are united again, from the first, whatever grouping the words held.
+    pub fn widen(self, words: &mut [u32], structure: &[u8]) -> Fed
+        ensures { λ r. ⌜ WidenPromise self (now (words .entry)) (now (structure .entry))
+            (feedAnswer (r .answer)) (r .session) (now (words .exit)) ⌝ }
+    {
+        let found = self.widen_check(words, structure);
+        let check = found.check;
+        if check.failed() {
+            return answer_feed(self, check);
+        }
+        let g = found.geo;
+        let joins = block::union_block(words, g, structure, 0, self.fed);
+        answer_feed(self.with_structure(structure, joins), check)
+    }
+
+    // The record under another structure, with the joins that its lines then have.
+    fn with_structure(self, structure: &[u8], joins: usize) -> Session
+        requires { ⌜ length (now structure) ≤ 81 ⌝ }
+        ensures { λ r. ⌜ r ≡ withStructure self (now (structure .entry)) joins ⌝ }
+    {
+        let bytes = geo::structure_of(structure);
+        let mut figures = self.figures;
+        figures.joins = joins;
+        let mut s = self;
+        s.structure = bytes;
+        s.figures = figures;
+        s
+    }
 }
 
 // ---- reading

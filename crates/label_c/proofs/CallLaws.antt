@@ -11,6 +11,7 @@ use Rattle.frame.specs.Plain.{Answer, refused}
 use Rattle.label.specs.declared.Session.{Session}
 use Rattle.label.specs.Opening.{OpenPromise, blank}
 use Rattle.label.specs.Feeding.{FeedPromise}
+use Rattle.label.specs.Widening.{WidenPromise}
 use Rattle.label.specs.Reading.{ReadPromise, SizesPromise}
 use Rattle.label.specs.WholeFrame.{FramePromise}
 use Rattle.record_c.specs.Records.{recordWords, recordOf}
@@ -18,7 +19,7 @@ use Rattle.record_c.specs.Early.{leastAnswer, recordEarly}
 use Rattle.record_c.specs.Ends.{recordAfter, ReadEnd, FeedEnd}
 use Rattle.record_c.proofs.EarlyLaws.{short-record, long-record, frame-short, frame-long}
 use Rattle.record_c.proofs.EndLaws.{ends-refused, record-stands}
-use Rattle.label_c.specs.CCalls.{Call, OpenCall, FeedCall, ReadCall, SizesCall, FrameCall}
+use Rattle.label_c.specs.CCalls.{Call, OpenCall, FeedCall, WidenCall, ReadCall, SizesCall, FrameCall}
 
 -- ---- a call
 
@@ -43,6 +44,12 @@ module _ {early : ℕ} {Stands : Type 0} {Made : Answer → Type 0} {answer : Li
         made = λ e. made;
         ends = ends;
       }
+
+  -- a call with a record: what it promises of the record that it was given, it promises of the one that the words hold
+  record-made : {looked : ℕ} {s t : Session} {said : Answer} {answer′ : List ℕ} → looked ≡ early → looked ≡ 0 → s ≡ t
+      → (Promise : Session → Type 0) → Promise s → (Promise t → Made said) → ReadEnd said answer number answer′
+      → Call early Stands Made answer number answer′
+  record-made l none e Promise P made E = call-made (sym l ∙ none) (made (subst Promise e P)) E
 
 -- ---- an opening
 
@@ -77,6 +84,9 @@ module _ {r ws answer : List ℕ} {number : ℕ} (e : number ≡ recordEarly r (
   pub feed-early : {k : ℕ} {cells : List Bool} → (number ≡ 0 → ⊥) → FeedCall r ws k cells answer number r ws answer
   feed-early h = record { call = call-early e h (refl, refl) }
 
+  pub widen-early : {structure : List ℕ} → (number ≡ 0 → ⊥) → WidenCall r ws structure answer number r ws answer
+  widen-early h = record { call = call-early e h (refl, refl) }
+
   pub read-early : {kind : Number} {out : List (Value kind)} → (number ≡ 0 → ⊥) → ReadCall kind r ws out answer number ws out answer
   read-early h = record { call = call-early e h (refl, refl) }
 
@@ -90,30 +100,32 @@ module _ {s s′ : Session} {r ws ws′ answer answer′ : List ℕ} {early numb
       → FeedCall r ws k cells answer number r′ ws′ answer′
   feed-made {k} {cells} P E =
       record {
-        call = call-made (sym l ∙ none) (record {
-          session = s′;
-          promise = subst (λ (x : Session). FeedPromise x ws k cells a s′ ws′)
-              e P;
-          record-is = E .record-is;
-        }) (E .ends);
+        call = record-made l none e (λ (x : Session). FeedPromise x ws k cells a s′ ws′) P
+            (λ p. record { session = s′; promise = p; record-is = E .record-is }) (E .ends);
+      }
+
+  pub widen-made : {structure r′ : List ℕ} → WidenPromise s ws structure a s′ ws′ → FeedEnd a s′ r answer number r′ answer′
+      → WidenCall r ws structure answer number r′ ws′ answer′
+  widen-made {structure} P E =
+      record {
+        call = record-made l none e (λ (x : Session). WidenPromise x ws structure a s′ ws′) P
+            (λ p. record { session = s′; promise = p; record-is = E .record-is }) (E .ends);
       }
 
   pub read-made : {kind : Number} {out out′ : List (Value kind)} → ReadPromise kind s ws out a s′ ws′ out′ → ReadEnd a answer number answer′
       → ReadCall kind r ws out answer number ws′ out′ answer′
   read-made {kind} {out} {out′} P E =
       record {
-        call = call-made (sym l ∙ none)
-            (subst (λ (x : Session). ReadPromise kind (recordOf r) ws out a x ws′ out′) (P .session ∙ e)
-            (subst (λ (x : Session). ReadPromise kind x ws out a s′ ws′ out′) e P)) E;
+        call = record-made l none e (λ (x : Session). ReadPromise kind x ws out a s′ ws′ out′) P
+            (subst (λ (x : Session). ReadPromise kind (recordOf r) ws out a x ws′ out′) (P .session ∙ e)) E;
       }
 
   pub sizes-made : {out out′ : List ℕ} → SizesPromise s ws out a s′ ws′ out′ → ReadEnd a answer number answer′
       → SizesCall r ws out answer number ws′ out′ answer′
   sizes-made {out} {out′} P E =
       record {
-        call = call-made (sym l ∙ none)
-            (subst (λ (x : Session). SizesPromise (recordOf r) ws out a x ws′ out′) (P .session ∙ e)
-            (subst (λ (x : Session). SizesPromise x ws out a s′ ws′ out′) e P)) E;
+        call = record-made l none e (λ (x : Session). SizesPromise x ws out a s′ ws′ out′) P
+            (subst (λ (x : Session). SizesPromise (recordOf r) ws out a x ws′ out′) (P .session ∙ e)) E;
       }
 
 -- ---- whole frames

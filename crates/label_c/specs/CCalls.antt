@@ -13,6 +13,7 @@ use Rattle.frame.specs.Plain.{Answer, refused}
 use Rattle.label.specs.declared.Session.{Session}
 use Rattle.label.specs.Opening.{OpenPromise}
 use Rattle.label.specs.Feeding.{FeedPromise}
+use Rattle.label.specs.Widening.{WidenPromise}
 use Rattle.label.specs.Reading.{ReadPromise, SizesPromise}
 use Rattle.label.specs.WholeFrame.{FramePromise}
 use Rattle.record_c.specs.Records.{recordOf}
@@ -43,6 +44,14 @@ pub record FeedMade (r ws : List ℕ) (k : ℕ) (cells : List Bool) (a : Answer)
 
 pub record FeedCall (r ws : List ℕ) (k : ℕ) (cells : List Bool) (answer : List ℕ) (number : ℕ) (r′ ws′ answer′ : List ℕ) : Type 0 where
   pub call : Call (recordEarly r (length answer)) ((r′ ≡ r) × (ws′ ≡ ws)) (λ a. FeedMade r ws k cells a r′ ws′) answer number answer′
+
+pub record WidenMade (r ws structure : List ℕ) (a : Answer) (r′ ws′ : List ℕ) : Type 0 where
+  pub session : Session
+  pub promise : WidenPromise (recordOf r) ws structure a session ws′
+  pub record-is : r′ ≡ recordAfter (returned a) session r
+
+pub record WidenCall (r ws structure answer : List ℕ) (number : ℕ) (r′ ws′ answer′ : List ℕ) : Type 0 where
+  pub call : Call (recordEarly r (length answer)) ((r′ ≡ r) × (ws′ ≡ ws)) (λ a. WidenMade r ws structure a r′ ws′) answer number answer′
 
 -- a reading and a size call change no record
 pub record ReadCall (kind : Number) (r ws : List ℕ) (out : List (Value kind)) (answer : List ℕ)
@@ -77,6 +86,11 @@ OpenLent shape structure words rec number =
 abbrev pub FeedLent : {A : Type 0} → (A → Bool) → Slice ℕ → Slice ℕ → ℕ → Slice A → Slice ℕ → ℕ → Type 0
 FeedLent nonzero rec words k cells answer number =
     FeedCall (now (rec .entry)) (now (words .entry)) k (map nonzero (now (cells .entry))) (now (answer .entry))
+    number (now (rec .exit)) (now (words .exit)) (now (answer .exit))
+
+abbrev pub WidenLent : Slice ℕ → Slice ℕ → Slice ℕ → Slice ℕ → ℕ → Type 0
+WidenLent rec words structure answer number =
+    WidenCall (now (rec .entry)) (now (words .entry)) (now (structure .entry)) (now (answer .entry))
     number (now (rec .exit)) (now (words .exit)) (now (answer .exit))
 
 abbrev pub ReadLent : (kind : Number) → Slice ℕ → Slice ℕ → Slice (Value kind) → Slice ℕ → ℕ → Type 0

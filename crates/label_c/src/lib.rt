@@ -4,6 +4,7 @@
 //     label_record_words    how many words a record has
 //     label_open            a record of a shape, a structure and working memory
 //     label_feed_T          the next lines of the frame, for each kind of cell
+//     label_widen           a wider structure, under which the session goes on
 //     label_read_T          each cell's number, for each kind of number
 //     label_sizes           each number's cell count
 //     label_frame_C_N       a whole frame, for each kind of cell and of number
@@ -13,7 +14,7 @@
 ghost use mathlib.Core.Path.{_≡_};
 ghost use Rattle.frame.specs.Kinds.{nz, nzℤ, nzF, u8, u16, u32};
 ghost use Rattle.record_c.specs.Records.{recordWords};
-ghost use Rattle.label_c.specs.CCalls.{OpenLent, FeedLent, ReadLent, SizesLent, FrameLent};
+ghost use Rattle.label_c.specs.CCalls.{OpenLent, FeedLent, WidenLent, ReadLent, SizesLent, FrameLent};
 
 // ---- the calls with a record
 
@@ -109,6 +110,23 @@ pub extern "C" fn label_feed_f32(
         return early;
     }
     let f = record_c::record_of(rec).feed_f32(words, k, cells);
+    record_c::end_feed(f, rec, answer)
+}
+
+#[no_mangle]
+pub extern "C" fn label_widen(
+    rec: &mut [u64],
+    words: &mut [u32],
+    structure: &[u8],
+    answer: &mut [u64],
+) -> u32
+    ensures { λ r. ⌜ WidenLent rec words structure answer r ⌝ }
+{
+    let early = record_c::record_early(rec, answer.len());
+    if early != 0 {
+        return early;
+    }
+    let f = record_c::record_of(rec).widen(words, structure);
     record_c::end_feed(f, rec, answer)
 }
 

@@ -1,7 +1,7 @@
 // Damaged records and memories: one field or word changed so that a clause of document 01's "Unsound, exactly" holds, or the total made
-// wrong, or the structure lopsided, or the sizes of roots such that they do not add up to the total. A feed, a reading and a size call that
-// would be accepted must then get 6 and leave record, words and output as they were. Where a run is damaged the total is made that of the
-// damaged runs, and the sizes such that they add up to it, so that it is neither that tells.
+// wrong, or the structure lopsided, or the sizes of roots such that they do not add up to the total. A feed, a reading, a size call and a
+// structure change that would be accepted must then get 6 and leave record, words and output as they were. Where a run is damaged the total
+// is made that of the damaged runs, and the sizes such that they add up to it, so that it is neither that tells.
 use flood::Extent;
 use flood::get;
 use flood::layout;
@@ -300,10 +300,12 @@ fn answered(done: Done, session: Session, right: usize) -> bool {
     (done.answer.number == right) & answers::same_record(after, session)
 }
 
-// One call: a feed of no lines, 1, a reading, 2, or the size call, 3. Whether it gives this number, and writes nothing if refused.
+// One call: a feed of no lines, 1, a reading, 2, the size call, 3, or a change to the structure that the session was opened with, 4.
+// Whether it gives this number, and writes nothing if refused.
 fn call(
     session: Session,
     words: &mut [u32],
+    structure: &[u8],
     places: usize,
     kind: usize,
     right: usize,
@@ -314,6 +316,10 @@ fn call(
         let done = trial::feed(session, words, 0, &[], (x % 4) as usize);
         return answered(done, session, right);
     }
+    if kind == 4 {
+        let done = trial::widen(session, words, structure);
+        return answered(done, session, right);
+    }
     let done = trial::read(session, words, places, &mut got, kind);
     let stands = layout::places_alike(&got, &[], 0);
     answered(done, session, right) & ((right == 0) | stands)
@@ -322,14 +328,16 @@ fn call(
 fn call_all(
     session: Session,
     words: &mut [u32],
+    structure: &[u8],
     e: Extent,
     n: usize,
     right: usize,
     state: &mut [u64; 48],
 ) {
-    for kind in 1..4 {
+    for kind in 1..5 {
         let places = crate::sessions::exact_places(kind, e, n);
-        let agreed = call(session, words, places, kind, right, tally::random(state));
+        let x = tally::random(state);
+        let agreed = call(session, words, structure, places, kind, right, x);
         tally::count(state, tally::OTHER, right, agreed);
     }
 }
@@ -338,6 +346,7 @@ fn call_all(
 fn try_damage(
     session: Session,
     e: Extent,
+    structure: &[u8],
     words: [u32; 3841],
     n: usize,
     d: usize,
@@ -356,6 +365,7 @@ fn try_damage(
     call_all(
         s,
         samples::lend_u32(&mut bad, memory),
+        structure,
         e,
         n,
         times(6, broken as usize),
@@ -365,9 +375,16 @@ fn try_damage(
     tally::count(state, plus(tally::UNDAMAGED, broken as usize), 0, agreed);
 }
 
-fn try_damages(session: Session, e: Extent, words: [u32; 3841], n: usize, state: &mut [u64; 48]) {
+fn try_damages(
+    session: Session,
+    e: Extent,
+    structure: &[u8],
+    words: [u32; 3841],
+    n: usize,
+    state: &mut [u64; 48],
+) {
     for d in 0..37 {
-        try_damage(session, e, words, n, d, state);
+        try_damage(session, e, structure, words, n, d, state);
     }
 }
 
@@ -385,6 +402,7 @@ pub fn try_damaged(shape: &[usize], structure: &[u8], flags: &[u8], state: &mut 
     try_damages(
         session,
         e,
+        structure,
         words,
         less(said.figures.runs, said.figures.joins),
         state,

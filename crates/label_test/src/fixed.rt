@@ -1,6 +1,11 @@
-// Fixed cases: the causes of an opening and what stands after them; and u8 numbers at their limit.
+// Fixed cases: the causes of an opening and of a structure change, and what stands after them; and u8 numbers at their limit.
+use crate::sessions;
 use flood::layout;
+use flood::plus;
+use flood::times;
+use label::Session;
 use samples::tally;
+use trial::answers;
 
 // A whole frame with so many words, that should be refused with this cause and leave words and output.
 fn try_whole(shape: &[usize], structure: &[u8], memory: usize, cause: usize) -> bool {
@@ -82,6 +87,154 @@ fn try_limits(state: &mut [u64; 48]) {
     try_opening(&[3, 3], 9, 34, 0, state);
 }
 
+// A session with so many lines of nonzero cells fed. `more` is added to the record's total, which makes it unsound.
+fn feed_ones(
+    shape: &[usize],
+    structure: &[u8],
+    lines: usize,
+    more: usize,
+    words: &mut [u32; 3841],
+) -> Session {
+    let ones = [1u8; 640];
+    let e = flood::extent_of(shape, structure);
+    let opened = trial::open(shape, structure, words);
+    let cells = samples::first(&ones, times(lines, e.width));
+    let fed = trial::feed(opened.session, words, lines, cells, 0);
+    let mut session = fed.session;
+    let mut figures = session.figures;
+    figures.cells = plus(figures.cells, more);
+    session.figures = figures;
+    session
+}
+
+// Whether a feed of no lines is accepted, or refused as it should be, and changes nothing.
+fn feeds_none(
+    session: Session,
+    words: &mut [u32; 3841],
+    laid: &[u32; 3841],
+    accepted: bool,
+) -> bool {
+    let done = trial::feed(session, words, 0, &[], 0);
+    let stands = answers::same_record(done.session, session) & layout::words_alike(words, laid);
+    stands & ((done.answer.number == 0) == accepted)
+}
+
+// A change of such a session from a structure to another, that should give this cause, or 0; and a feed of no lines then.
+fn try_change(
+    shape: &[usize],
+    old: &[u8],
+    new: &[u8],
+    lines: usize,
+    more: usize,
+    cause: usize,
+    state: &mut [u64; 48],
+) {
+    let mut words = [7u32; 3841];
+    let ones = [1u8; 640];
+    let e = flood::extent_of(shape, old);
+    let session = feed_ones(shape, old, lines, more, &mut words);
+    let mut laid = words;
+    let turn = sessions::change(session, e, new, &ones, &mut words, &mut laid, cause);
+    let stands = feeds_none(turn.session, &mut words, &laid, more == 0);
+    tally::count(state, tally::OTHER, turn.number, turn.agreed & stands);
+}
+
+// The structure whose byte i is nonzero where the binary digit i of a number is, the lowest being digit 0.
+fn structure_of(code: usize) -> [u8; 81] {
+    let mut s = [0u8; 81];
+    let mut rest = code;
+    for i in 0..81 {
+        s[i] = (rest % 2) as u8;
+        rest = rest / 2;
+    }
+    s
+}
+
+// Of rank 1 and width 3, where the new structure has so many bytes.
+fn try_line(
+    lines: usize,
+    old: usize,
+    new: usize,
+    bytes: usize,
+    more: usize,
+    cause: usize,
+    state: &mut [u64; 48],
+) {
+    let a = structure_of(old);
+    let b = structure_of(new);
+    let to = samples::first(&b, bytes);
+    try_change(&[3], samples::first(&a, 3), to, lines, more, cause, state);
+}
+
+// Of three lines of this width.
+fn try_plane(
+    width: usize,
+    lines: usize,
+    old: usize,
+    new: usize,
+    bytes: usize,
+    cause: usize,
+    state: &mut [u64; 48],
+) {
+    let a = structure_of(old);
+    let b = structure_of(new);
+    let to = samples::first(&b, bytes);
+    try_change(
+        &[3, width],
+        samples::first(&a, 9),
+        to,
+        lines,
+        0,
+        cause,
+        state,
+    );
+}
+
+// 2 comes before 12, and 12 before 19, which is for the left byte either way, and for the middle one. 6 comes before all of them. Here 7 is
+// 111, 5 is 101 and 2 is 010; 3 and 4 are lopsided.
+fn try_line_changes(state: &mut [u64; 48]) {
+    try_line(1, 7, 7, 0, 0, 2, state);
+    try_line(1, 7, 2, 2, 0, 2, state);
+    try_line(0, 7, 15, 4, 0, 2, state);
+    try_line(1, 7, 3, 3, 0, 12, state);
+    try_line(1, 2, 4, 3, 0, 12, state);
+    try_line(1, 7, 2, 3, 0, 19, state);
+    try_line(0, 2, 7, 3, 0, 19, state);
+    try_line(1, 7, 5, 3, 0, 19, state);
+    try_line(1, 5, 7, 3, 0, 0, state);
+    try_line(1, 2, 2, 3, 0, 0, state);
+    try_line(1, 7, 7, 2, 1, 6, state);
+    try_line(1, 7, 3, 3, 1, 6, state);
+    try_line(0, 7, 2, 3, 1, 6, state);
+    try_line(1, 7, 7, 3, 1, 6, state);
+}
+
+// 000111000, 010101010, 100111001 and 111111111.
+const ROW: usize = 56;
+
+const ARMS: usize = 170;
+
+const SLANT: usize = 313;
+
+const FULL: usize = 511;
+
+// Wider by a pair or more, equal, and narrower by a pair, by the first, or by the middle byte. Where no line is fed, and where the lines
+// have no cells, only the record changes.
+fn try_plane_changes(state: &mut [u64; 48]) {
+    try_plane(3, 3, ROW, SLANT, 9, 0, state);
+    try_plane(3, 2, ROW, FULL, 9, 0, state);
+    try_plane(3, 3, SLANT, SLANT, 9, 0, state);
+    try_plane(3, 0, SLANT, FULL, 9, 0, state);
+    try_plane(0, 3, SLANT, FULL, 9, 0, state);
+    try_plane(3, 1, ARMS, FULL, 9, 0, state);
+    try_plane(3, 3, ROW, ARMS, 9, 19, state);
+    try_plane(3, 3, SLANT, ROW, 9, 19, state);
+    try_plane(3, 0, FULL, SLANT, 9, 19, state);
+    try_plane(0, 3, FULL, ARMS, 9, 19, state);
+    try_plane(3, 3, ROW, FULL, 3, 2, state);
+    try_plane(3, 3, ROW, FULL, 27, 2, state);
+}
+
 // A line of so many cells, every other nonzero, read as u8, which should give this cause, or 0.
 fn try_lone(width: usize, cause: usize, state: &mut [u64; 48]) {
     let mut flags = [0u8; 640];
@@ -101,6 +254,8 @@ pub fn try_all(state: &mut [u64; 48]) {
     try_openings(state);
     try_all_lopsided(state);
     try_limits(state);
+    try_line_changes(state);
+    try_plane_changes(state);
     try_lone(509, 0, state);
     try_lone(511, 10, state);
 }

@@ -1,5 +1,5 @@
-// Sessions at run time, against a plain labelling by flood fill: random calls, sizes after each line, records of other origin, damaged
-// records and memories, and fixed cases of the causes.
+// Sessions at run time, against a plain labelling by flood fill: random calls, sizes after each line, structure changes, records of other
+// origin, damaged records and memories, and fixed cases of the causes.
 mod damage;
 mod fixed;
 mod origin;
@@ -7,14 +7,27 @@ mod sessions;
 
 use samples::tally;
 
+// Half of the sessions of random calls begin under a structure of few bytes, so that changes of it make fewer groups.
+fn try_calls(
+    shape: &[usize],
+    structure: [u8; 81],
+    count: usize,
+    flags: &[u8],
+    state: &mut [u64; 48],
+) {
+    let thin = samples::thinned(structure, count, tally::random(state));
+    sessions::try_calls(shape, samples::first(&thin, count), flags, state);
+}
+
 // One random frame.
 fn try_frame(state: &mut [u64; 48]) {
     let mut structure = [0u8; 81];
     let mut flags = [0u8; 640];
     let shape = samples::random_frame(state, &mut structure, &mut flags);
     let used = samples::first_sizes(&shape.entries, shape.rank);
-    let bytes = samples::first(&structure, samples::power3(shape.rank));
-    sessions::try_calls(used, bytes, &flags, state);
+    let count = samples::power3(shape.rank);
+    try_calls(used, structure, count, &flags, state);
+    let bytes = samples::first(&structure, count);
     sessions::try_lines(used, bytes, &flags, state);
     origin::try_origin(used, bytes, &flags, state);
     damage::try_damaged(used, bytes, &flags, state);
@@ -45,9 +58,17 @@ fn report(state: &[u64; 48]) {
     );
     tally::report(
         state,
+        b"structure changes: #\n  accepted: #\n  and with fewer groups then: #\nstructure changes of records of other origin: #\n",
+        tally::CHANGES,
+    );
+    tally::report(
+        state,
         b"records left whole, or with any sizes at runs that are no roots: #\ndamaged records and memories: #\n",
         tally::UNDAMAGED,
     );
+}
+
+fn report_refused(state: &[u64; 48]) {
     tally::report(
         state,
         b"refused 1: #\nrefused 2: #\nrefused 3: #\nrefused 4: #\nrefused 5: #\n",
@@ -59,7 +80,7 @@ fn report(state: &[u64; 48]) {
         30,
     );
     tally::report(state, b"refused 12: #\n", tally::REFUSED_12);
-    tally::report(state, b"differed=#\n", tally::DIFFERED);
+    tally::report(state, b"refused 19: #\n", tally::REFUSED_19);
 }
 
 fn main() {
@@ -68,4 +89,6 @@ fn main() {
     fixed::try_all(&mut state);
     try_frames(&mut state);
     report(&state);
+    report_refused(&state);
+    tally::report(&state, b"differed=#\n", tally::DIFFERED);
 }

@@ -1,6 +1,7 @@
 // Records of other origin: a session's, with its total dealt out among the roots' sizes otherwise than by groups, any words at the sizes of
-// other runs, and in some a root that was made a run of another group. They are accepted. A size call copies the sizes that stand there, a
-// reading numbers the groups that the record holds, and a feed adds sizes and lengths by document 02's rule.
+// other runs, any bytes past its structure's, and in some a root that was made a run of another group. They are accepted. A size call
+// copies the sizes that stand there, a reading numbers the groups that the record holds, and a feed adds sizes and lengths by document 02's
+// rule. After a structure change groups and sizes are the flood fill's again, whatever the record held.
 use crate::sessions;
 use crate::sessions::Turn;
 use flood::Extent;
@@ -18,6 +19,9 @@ struct Link {
     run: usize,
     to: usize,
 }
+
+// Structure changes of such records.
+const REGROUPED: usize = 47;
 
 fn draw_link(words: &[u32; 3841], e: Extent, runs: usize, x: u64) -> Link {
     let root = layout::root_of(words, e, below(x, runs));
@@ -151,7 +155,9 @@ fn make(
     }
     samples::deal_sizes(words, e, runs, cells, tally::random(state));
     let shape = session.shape;
-    let structure = session.structure;
+    let bytes = session.structure;
+    let count = samples::power3(session.rank);
+    let structure = samples::with_tail(bytes, count, tally::random(state));
     tally::add(state, tally::ORIGINS);
     tally::add(state, if linked { tally::LINKED } else { tally::OTHER });
     Session {
@@ -167,7 +173,46 @@ fn make(
     }
 }
 
-// Reads a record of other origin, feeds it k of the lines left, and reads it again.
+// Feeds such a record k of the lines left, and reads it.
+fn feed_and_read(
+    session: Session,
+    e: Extent,
+    structure: &[u8],
+    flags: &[u8],
+    link: Link,
+    words: &mut [u32; 3841],
+    laid: &mut [u32; 3841],
+    k: usize,
+    state: &mut [u64; 48],
+) -> Session {
+    let code = below(tally::random(state), 4);
+    let turn = feed_linked(session, e, structure, flags, link, words, laid, k, code);
+    let after = turn.session;
+    count_turn(words, laid, turn, state);
+    read_both(after, e, structure, flags, link, words, laid, state);
+    after
+}
+
+// Gives such a record this structure, and reads it: no link is held then.
+fn change_and_read(
+    session: Session,
+    e: Extent,
+    structure: &[u8],
+    flags: &[u8],
+    words: &mut [u32; 3841],
+    laid: &mut [u32; 3841],
+    state: &mut [u64; 48],
+) -> Session {
+    let turn = sessions::change(session, e, structure, flags, words, laid, 0);
+    let after = turn.session;
+    count_turn(words, laid, turn, state);
+    tally::add(state, REGROUPED);
+    let none = Link { run: 0, to: 0 };
+    read_both(after, e, structure, flags, none, words, laid, state);
+    after
+}
+
+// Reads a record of other origin, feeds it k of the lines left and gives it a wider structure, or the other way round.
 fn try_calls(
     session: Session,
     e: Extent,
@@ -180,11 +225,17 @@ fn try_calls(
     state: &mut [u64; 48],
 ) {
     read_both(session, e, structure, flags, link, words, laid, state);
-    let code = below(tally::random(state), 4);
-    let turn = feed_linked(session, e, structure, flags, link, words, laid, k, code);
-    let after = turn.session;
-    count_turn(words, laid, turn, state);
-    read_both(after, e, structure, flags, link, words, laid, state);
+    let x = tally::random(state);
+    let drawn = samples::wider(samples::padded(structure), structure.len(), x);
+    let wider = samples::first(&drawn, structure.len());
+    if x / 1024 % 2 == 0 {
+        let fed = feed_and_read(session, e, structure, flags, link, words, laid, k, state);
+        change_and_read(fed, e, wider, flags, words, laid, state);
+        return;
+    }
+    let changed = change_and_read(session, e, wider, flags, words, laid, state);
+    let none = Link { run: 0, to: 0 };
+    feed_and_read(changed, e, wider, flags, none, words, laid, k, state);
 }
 
 // Feeds a session some lines, makes a record of other origin of it, and tries that; at least one line follows, if there is one.

@@ -1,7 +1,7 @@
-// Sessions fed in random pieces, with readings and size calls between, and sessions fed line by line with a size call after each, against
-// the flood fill of the lines fed. After every call the words must be, but for parents and for the sizes of runs that are no roots, those
-// laid out by the documents' rules, each root's size the count of its group's cells; after a refusal words, record and output are as they
-// were.
+// Sessions fed in random pieces, with readings, size calls and structure changes between, and sessions fed line by line with a size call
+// after each, against the flood fill of the lines fed under the structure that the session then has. After every call the words must be,
+// but for parents and for the sizes of runs that are no roots, those laid out by the documents' rules, each root's size the count of its
+// group's cells; after a refusal words, record and output are as they were.
 use flood::Extent;
 use flood::layout;
 use flood::less;
@@ -21,7 +21,14 @@ pub const SIZES: usize = 3;
 // By this samples::near is exact.
 const EXACT: u64 = 2;
 
-// What a call gave: its code, 0 to 3 feeds and 4 to 7 readings and the size call, and whether all but the words was as it should be.
+// The code of a structure change.
+const CHANGE: usize = 8;
+
+// Accepted structure changes that made fewer groups.
+const JOINING: usize = 46;
+
+// What a call gave: its code, 0 to 3 feeds, 4 to 7 readings and the size call, 8 a structure change, and whether all but the words was as
+// it should be.
 pub struct Turn {
     pub session: Session,
     pub code: usize,
@@ -38,8 +45,8 @@ fn feed_cause(k: usize, left: usize, cells: usize, width: usize) -> usize {
     if cells != times(k, width) { 8 } else { 0 }
 }
 
-// Whether an accepted feed left what it should, given the right numbers of the runs and the right sizes: `laid` has the new runs, and takes
-// over from the words what is free.
+// Whether an accepted feed or structure change left what it should, given the right numbers of the runs and the right sizes: `laid` has the
+// new runs, and takes over from the words what is free. The record is the one before, under the structure of the call.
 pub fn check_accepted(
     session: Session,
     done: Done,
@@ -60,7 +67,7 @@ pub fn check_accepted(
     alike & (joins == figures.joins) & answers::same(answer, right)
 }
 
-// The same by the flood fill. A feed of no lines must leave the free words too.
+// The same by the flood fill.
 fn check_fed(
     session: Session,
     done: Done,
@@ -74,11 +81,10 @@ fn check_fed(
     let mut marks = [0u32; 1920];
     let mut sizes = [0u32; 640];
     let cells = times(fed, e.width);
-    let stands = (fed != session.fed) | layout::words_alike(words, laid);
     let count = flood::number_cells(e, structure, flags, cells, &mut marks);
     flood::count_cells(&marks, cells, &mut sizes);
     layout::lay(laid, e, flags, fed);
-    stands & check_accepted(session, done, fed, count, &marks, &sizes, words, laid, e)
+    check_accepted(session, done, fed, count, &marks, &sizes, words, laid, e)
 }
 
 fn check_refused(session: Session, done: Done, cause: usize) -> bool {
@@ -87,7 +93,7 @@ fn check_refused(session: Session, done: Done, cause: usize) -> bool {
     answers::same_record(after, session) & answers::same(answer, answers::refused(cause))
 }
 
-// A feed of k lines, with so many cells.
+// A feed of k lines, with so many cells. One of no lines must leave the free words too.
 fn feed_lines(
     session: Session,
     e: Extent,
@@ -104,6 +110,7 @@ fn feed_lines(
     let cause = feed_cause(k, left, cells.len(), e.width);
     let done = trial::feed(session, words, k, cells, code);
     let fed = plus(session.fed, k);
+    let stands = (k != 0) | layout::words_alike(words, laid);
     let agreed = if cause == 0 {
         check_fed(session, done, fed, words, laid, e, structure, flags)
     } else {
@@ -115,7 +122,7 @@ fn feed_lines(
         session,
         code,
         number,
-        agreed,
+        agreed: agreed & stands,
     }
 }
 
@@ -134,6 +141,59 @@ fn feed_some(
     let k = below(next(x), plus(left, 2));
     let count = samples::near(times(k, e.width), x / 4);
     feed_lines(session, e, structure, flags, words, laid, k, count, code)
+}
+
+// ---- structure changes
+
+// One that should be refused with this cause, or accepted where it is 0. What is laid out already stands, names too.
+pub fn change(
+    session: Session,
+    e: Extent,
+    structure: &[u8],
+    flags: &[u8],
+    words: &mut [u32; 3841],
+    laid: &mut [u32; 3841],
+    cause: usize,
+) -> Turn {
+    let done = trial::widen(session, words, structure);
+    let fed = session.fed;
+    let agreed = if cause == 0 {
+        let wider = trial::under(session, structure);
+        check_fed(wider, done, fed, words, laid, e, structure, flags)
+    } else {
+        check_refused(session, done, cause)
+    };
+    let session = done.session;
+    let number = done.answer.number;
+    Turn {
+        session,
+        code: CHANGE,
+        number,
+        agreed,
+    }
+}
+
+// One to a structure that is mostly wider than this one, and now and then has a byte too many or too few.
+fn change_some(
+    session: Session,
+    e: Extent,
+    structure: &[u8],
+    flags: &[u8],
+    words: &mut [u32; 3841],
+    laid: &mut [u32; 3841],
+    x: u64,
+) -> Turn {
+    let exact = structure.len();
+    let drawn = samples::changed(samples::padded(structure), exact, x);
+    let y = next(x);
+    let count = if y / 16 % 4 == 0 {
+        samples::near(exact, y / 64)
+    } else {
+        exact
+    };
+    let new = samples::first(&drawn, count);
+    let cause = flood::changes::cause(structure, new);
+    change(session, e, new, flags, words, laid, cause)
 }
 
 // ---- readings and size calls
@@ -235,8 +295,12 @@ fn call_some(
     laid: &mut [u32; 3841],
     x: u64,
 ) -> Turn {
-    if x / 1024 % 5 < 3 {
+    let drawn = x / 1024 % 6;
+    if drawn < 3 {
         return feed_some(session, e, structure, flags, words, laid, x);
+    }
+    if drawn == 3 {
+        return change_some(session, e, structure, flags, words, laid, next(x));
     }
     read_kind(
         session,
@@ -250,15 +314,38 @@ fn call_some(
     )
 }
 
+// Of a structure change also whether it was accepted, and then whether it made fewer groups.
+fn count_turn(turn: Turn, joins: usize, agreed: bool, state: &mut [u64; 48]) {
+    if turn.code == CHANGE {
+        let accepted = turn.number == 0;
+        let joined = turn.session.figures.joins != joins;
+        tally::add(
+            state,
+            if accepted {
+                tally::CHANGED
+            } else {
+                tally::OTHER
+            },
+        );
+        tally::add(state, if joined { JOINING } else { tally::OTHER });
+        tally::count(state, tally::CHANGES, turn.number, agreed);
+        return;
+    }
+    tally::add(state, plus(tally::FEEDS, turn.code / 4));
+    tally::count(state, plus(tally::CODES, turn.code), turn.number, agreed);
+}
+
+// The structure is the record's, which every call before was held to.
 fn count_call(
     session: Session,
     e: Extent,
-    structure: &[u8],
     flags: &[u8],
     words: &mut [u32; 3841],
     laid: &mut [u32; 3841],
     state: &mut [u64; 48],
 ) -> Session {
+    let held = session.structure;
+    let structure = samples::first(&held, samples::power3(session.rank));
     let turn = call_some(
         session,
         e,
@@ -269,15 +356,13 @@ fn count_call(
         tally::random(state),
     );
     let agreed = turn.agreed & layout::words_alike(words, laid);
-    tally::add(state, plus(tally::FEEDS, turn.code / 4));
-    tally::count(state, plus(tally::CODES, turn.code), turn.number, agreed);
+    count_turn(turn, session.figures.joins, agreed, state);
     turn.session
 }
 
 fn calls(
     opened: Session,
     e: Extent,
-    structure: &[u8],
     flags: &[u8],
     words: &mut [u32; 3841],
     laid: &mut [u32; 3841],
@@ -285,7 +370,7 @@ fn calls(
 ) {
     let mut session = opened;
     for i in 0..12usize {
-        session = count_call(session, e, structure, flags, words, laid, state);
+        session = count_call(session, e, flags, words, laid, state);
     }
 }
 
@@ -297,17 +382,11 @@ pub fn try_calls(shape: &[usize], structure: &[u8], flags: &[u8], state: &mut [u
     laid[0] = 0;
     let lent = samples::lend_u32(&mut words, layout::words_needed(e));
     let done = trial::open(shape, structure, lent);
-    let agreed = (done.answer.number == 0) & layout::words_alike(&words, &laid);
+    let session = done.session;
+    let alike = answers::same_record(session, trial::under(session, structure));
+    let agreed = alike & (done.answer.number == 0) & layout::words_alike(&words, &laid);
     tally::count(state, tally::TRIED, done.answer.number, agreed);
-    calls(
-        done.session,
-        e,
-        structure,
-        flags,
-        &mut words,
-        &mut laid,
-        state,
-    );
+    calls(session, e, flags, &mut words, &mut laid, state);
 }
 
 // ---- a session fed line by line, with a size call after each line

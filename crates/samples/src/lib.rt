@@ -230,6 +230,95 @@ pub fn lopsided(structure: [u8; 81], count: usize, x: u64) -> [u8; 81] {
     s
 }
 
+// ---- structures that a session is to go on under
+
+// As a record holds it: zeros after its bytes.
+pub fn padded(structure: &[u8]) -> [u8; 81] {
+    let mut s = [0u8; 81];
+    for i in 0..81 {
+        s[i] = byte(structure, i);
+    }
+    s
+}
+
+// A byte of a wider structure: nonzero where the old one is, and often or seldom where it is not.
+fn wider_byte(before: u8, often: bool, x: u64) -> u8 {
+    let drawn = x / 1024 % 16;
+    let is_new = (drawn < 2) | (often & (drawn < 8));
+    opposite_byte(if is_new { 1 } else { before }, x)
+}
+
+// One as wide as a structure of so many bytes, or wider, and symmetric as it is. The left byte stays zero or nonzero; values are others.
+pub fn wider(structure: [u8; 81], count: usize, x: u64) -> [u8; 81] {
+    let mut s = structure;
+    let mut y = x;
+    for i in 0..plus(count / 2, 1) {
+        y = next(y);
+        let before = byte(&s, i);
+        let after = if plus(i, 1) == count / 2 {
+            opposite_byte(before, y)
+        } else {
+            wider_byte(before, x % 2 == 0, y)
+        };
+        put_byte(&mut s, i, after);
+        put_byte(
+            &mut s,
+            less(less(count, 1), i),
+            opposite_byte(after, next(y)),
+        );
+    }
+    s
+}
+
+// With this value at a place and at the one opposite.
+fn with_pair(structure: [u8; 81], count: usize, at: usize, value: u8) -> [u8; 81] {
+    let mut s = structure;
+    put_byte(&mut s, at, value);
+    put_byte(&mut s, less(less(count, 1), at), value);
+    s
+}
+
+// With a left byte that is zero where it is not, and nonzero where it is.
+pub fn other_left(structure: [u8; 81], count: usize) -> [u8; 81] {
+    let left = less(count / 2, 1);
+    let before = byte(&structure, left);
+    with_pair(structure, count, left, if before == 0 { 9 } else { 0 })
+}
+
+// Half of them as they are; of the others the left byte and one pair, so that there is much to add.
+pub fn thinned(structure: [u8; 81], count: usize, x: u64) -> [u8; 81] {
+    if x % 2 == 0 {
+        return structure;
+    }
+    let left = less(count / 2, 1);
+    let before = byte(&structure, left);
+    let bare = with_pair([0; 81], count, left, before);
+    with_pair(bare, count, below(x / 2, count), 3)
+}
+
+// Mostly a wider one; now and then lopsided, or without some pair, or with another left byte, or lopsided with another left byte.
+pub fn changed(structure: [u8; 81], count: usize, x: u64) -> [u8; 81] {
+    let s = wider(structure, count, next(x));
+    match x % 16 {
+        0 => lopsided(s, count, x / 16),
+        1 => with_pair(s, count, below(x / 16, count), 0),
+        2 => other_left(s, count),
+        3 => lopsided(other_left(s, count), count, x / 16),
+        _ => s,
+    }
+}
+
+// With any bytes past the first so many, which are none of its own.
+pub fn with_tail(structure: [u8; 81], count: usize, x: u64) -> [u8; 81] {
+    let mut s = structure;
+    let mut y = x;
+    for i in count..81 {
+        y = next(y);
+        s[i] = (y % 256) as u8;
+    }
+    s
+}
+
 // ---- cells
 
 fn density(x: u64) -> u64 {

@@ -23,7 +23,11 @@ pub const WIDTHS: usize = 20;
 // One for each refusal's number; 0 is for what was accepted.
 pub const REFUSED: usize = 24;
 
+pub const REFUSED_2: usize = 26;
+
 pub const REFUSED_12: usize = 36;
+
+pub const REFUSED_19: usize = 43;
 
 // Counted here is what is not printed.
 pub const OTHER: usize = 39;
@@ -34,6 +38,11 @@ pub const SIZED_LINES: usize = 40;
 pub const ORIGINS: usize = 41;
 
 pub const LINKED: usize = 42;
+
+// Structure changes, and those accepted; the two entries after them are for a program's own counts of these.
+pub const CHANGES: usize = 44;
+
+pub const CHANGED: usize = 45;
 
 pub fn at(state: &[u64; 48], i: usize) -> u64 {
     if i < 48 { state[i] } else { 0 }

@@ -12,12 +12,13 @@ use borrow.Author.Tests.{eqb-true, eqb-false, ltb-false, le-ltb, lt-ltb}
 use lib.Dec.{eqb, ltb}
 use lib.ListN.{getD}
 use mir.Val.{boolByte}
+use Rattle.groups.proofs.BoolLaws.{or-false}
 use Rattle.groups.specs.Groups.{count}
 use Rattle.groups.proofs.CountLaws.{count-none, count-off, count-most}
 use Rattle.frame.specs.Runs.{gapOf}
 use Rattle.frame.specs.Words.{lineStart, runStart, runEnd, storedRun, startPlace, endPlace}
 use Rattle.sound.specs.Passes.{falls, firstFalls, LinesSound, LinesFound}
-use Rattle.sound.proofs.TestLaws.{counts-more, or-false}
+use Rattle.sound.proofs.TestLaws.{counts-more}
 use Rattle.sound.proofs.LineLaws.{starts-rise}
 
 module _ (L w : ℕ) (left : Bool) (ws : List ℕ) where

@@ -9,7 +9,7 @@ use native.Mathlib.Omega.{arith}
 use borrow.Author.Tests.{eqb-true, eq-eqb, not-true, not-false, leb-false, lt-leb, ltb-false, le-ltb}
 use lib.Dec.{eqb, ltb, leb}
 use Rattle.groups.specs.Groups.{count}
-use Rattle.groups.proofs.BoolLaws.{or-left, or-right, bool-same}
+use Rattle.groups.proofs.BoolLaws.{or-left, or-right, bool-same, or-false}
 use Rattle.groups.proofs.CountLaws.{count-none}
 use Rattle.frame.specs.declared.Figures.{Figures}
 use Rattle.frame.specs.Runs.{Run, gapOf, runLengths}
@@ -20,7 +20,6 @@ use Rattle.sound.specs.declared.Lines.{Lines}
 use Rattle.sound.specs.declared.Runs.{Runs}
 use Rattle.sound.specs.Stored.{WordsSound, wordsSound, PassReady}
 use Rattle.sound.specs.Passes.{falls, firstFalls, LinesSound, LinesFound, wrongRun, Nonempty, RunsFound}
-use Rattle.sound.proofs.TestLaws.{or-false}
 use Rattle.sound.proofs.FallLaws.{count-stays, stays-none, same-others, others-same}
 use Rattle.sound.proofs.LineLaws.{Ordered, within, line-few, line-lengths, starts-rise, by-lines, all-few, all-lengths}
 use Rattle.sound.proofs.LineLaws.{lengths-single, single-lengths}

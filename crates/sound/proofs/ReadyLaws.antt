@@ -8,12 +8,12 @@ use native.Mathlib.Nat.{mul-le-mul, mul-le-mul-right}
 use native.Mathlib.Omega.{arith}
 use borrow.Author.Tests.{eqb-true, not-false, ltb-false}
 use lib.Dec.{eqb, ltb}
+use Rattle.groups.proofs.BoolLaws.{or-false}
 use Rattle.frame.specs.Memory.{mostRuns}
 use Rattle.frame.specs.Words.{lineStart}
 use Rattle.frame.proofs.LineLaws.{most-runs-le}
 use Rattle.sound.specs.Stored.{PassReady}
 use Rattle.sound.specs.Passes.{LinesReady, RunsReady}
-use Rattle.sound.proofs.TestLaws.{or-false}
 
 -- with the most runs of a line as the code has it
 module _ (L w : ℕ) (left : Bool) (fed : ℕ) (ws : List ℕ) {most : ℕ} (is-most : most ≡ mostRuns left w) (P : PassReady L w left fed ws) where

@@ -1,7 +1,7 @@
 -- Tests: as numbers, counted one by one, with what they let into a sum, and joined by `or`.
 -- Assumes nothing.
 use mathlib.Core.Path.{_≡_, refl, sym}
-use mathlib.Core.Bool.{Bool, true, false, not, cond, _||_, true≢false}
+use mathlib.Core.Bool.{Bool, true, false, not, cond}
 use Prim.Native.Nat.{ℕ, suc, _+_, _*_, _^_, _≤_, _<_}
 use native.Mathlib.Nat.{le-refl, mul-le-mul}
 use native.Mathlib.Numerals.{add-one}
@@ -42,11 +42,6 @@ times-fits {x = x} t l = record { fits = omega (arith, mul-le-mul (le-refl x) t)
 pub counts-more : (f : ℕ → Bool) (n : ℕ) {k : ℕ} (t : Bool) → t ≡ f n → k ≡ count f n → k + boolByte t ≡ count f (n + 1)
 counts-more f n true is e = rw (add-one n) (omega (arith, count-on f n (sym is)))
 counts-more f n false is e = rw (add-one n) (omega (arith, count-off f n (sym is)))
-
--- both tests of an `or` that is false are
-pub or-false : (a b : Bool) → (a || b) ≡ false → (a ≡ false) × (b ≡ false)
-or-false false b h = (refl, h)
-or-false true b h = absurd (true≢false h)
 
 -- a sum with one number more, as the product with its test
 pub sums-more : (f : ℕ → Bool) (v : ℕ → ℕ) (n : ℕ) {s : ℕ} → s ≡ sumOver f v n → s + v n * boolByte (f n) ≡ sumOver f v (n + 1)

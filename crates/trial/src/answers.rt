@@ -92,7 +92,7 @@ fn place(kind: usize, x: &[u8], y: &[u16], z: &[u32], i: usize) -> u32 {
     }
 }
 
-pub fn widen(kind: usize, x: &[u8; 640], y: &[u16; 640], got: &mut [u32]) {
+pub fn as_words(kind: usize, x: &[u8; 640], y: &[u16; 640], got: &mut [u32]) {
     for i in 0..got.len() {
         let held = place(kind, x, y, got, i);
         flood::put(got, i, held);

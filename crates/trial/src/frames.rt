@@ -54,7 +54,7 @@ pub fn label_cells(
     let y = samples::lend_u16(&mut u16s, places);
     let z = samples::lend_u32(got, places);
     let r = label_kind(kinds, shape, structure, words, a, b, d, e, x, y, z, blocks);
-    answers::widen(kinds % 4, &u8s, &u16s, got);
+    answers::as_words(kinds % 4, &u8s, &u16s, got);
     answers::reading(r)
 }
 

@@ -1,4 +1,4 @@
-// What the test programs share: the calls for each kind, with cells made of flags and numbers widened to words; their answers as numbers;
+// What the test programs share: the calls for each kind, with cells made of flags and numbers turned into words; their answers as numbers;
 // and the comparison of records. Nothing is promised of it; it is safe and it ends.
 pub mod answers;
 pub mod frames;
@@ -51,6 +51,24 @@ pub fn feed(session: Session, words: &mut [u32], k: usize, flags: &[u8], kind: u
     Done { answer, session }
 }
 
+// ---- structure changes
+
+pub fn widen(session: Session, words: &mut [u32], structure: &[u8]) -> Done {
+    let r = session.widen(words, structure);
+    let given = r.answer;
+    let answer = answers::feeding(given);
+    let session = r.session;
+    Done { answer, session }
+}
+
+// The record under that structure, and otherwise as it is.
+pub fn under(session: Session, structure: &[u8]) -> Session {
+    let bytes = samples::padded(structure);
+    let mut s = session;
+    s.structure = bytes;
+    s
+}
+
 // ---- readings
 
 fn read_kind(
@@ -84,7 +102,7 @@ pub fn read(
     let y = samples::lend_u16(&mut u16s, places);
     let z = samples::lend_u32(got, places);
     let r = read_kind(session, words, x, y, z, kind);
-    answers::widen(kind, &u8s, &u16s, got);
+    answers::as_words(kind, &u8s, &u16s, got);
     let given = r.answer;
     let answer = answers::reading(given);
     let session = r.session;

@@ -9,7 +9,7 @@ mod ours;
 use drivers::drawn::{CROSS, FULL, disks, hard_frames, noise};
 use drivers::plain::{END, PARENT, SIZE, STRIDE, words_needed};
 use drivers::random::Random;
-use ours::{ANSWER, Fed, Labels, Reads, label_open, label_record_words, label_sizes};
+use ours::{ANSWER, Fed, Labels, Reads, label_open, label_record_words, label_sizes, label_widen};
 use std::hint::black_box;
 use std::time::Instant;
 
@@ -277,6 +277,20 @@ impl Scan {
         least
     }
 
+    /// Milliseconds of a structure change to nine ones. Each unites all lines anew, whatever structure was before.
+    fn widen(&mut self, tries: usize) -> f64 {
+        let mut least = f64::MAX;
+        for _ in 0..tries {
+            let (r, w, a) = (&mut self.record, &mut self.words, &mut self.answer);
+            let (length, room, places) = (r.len(), w.len(), a.len());
+            let t = Instant::now();
+            let said = unsafe { label_widen(r.as_mut_ptr(), length, w.as_mut_ptr(), room, FULL.as_ptr(), 9, a.as_mut_ptr(), places) };
+            least = least.min(t.elapsed().as_secs_f64() * 1e3);
+            assert_eq!(said, 0);
+        }
+        least
+    }
+
     /// A feed looks at every stored run. A feed of no lines does just that, and changes nothing.
     fn look(&mut self, what: &str, tries: usize) {
         let (mut a, mut b, mut c) = (f64::MAX, f64::MAX, f64::MAX);
@@ -316,9 +330,10 @@ fn session(r: &mut Random, tries: usize) {
     }
 }
 
-/// A reading and a size call look at every stored run too.
+/// A reading, a size call and a structure change look at every stored run too.
 fn readings(r: &mut Random, tries: usize) {
-    println!("a session of 1,024 by 1,024, all lines fed, ms: a feed of no lines; a reading into u8, u16, u32 (NaN: the kind does not hold n); a size call");
+    println!("a session of 1,024 by 1,024, all lines fed under the cross, ms: a feed of no lines; a reading into u8, u16, u32 (NaN: the");
+    println!("kind does not hold n); a size call; a structure change to nine ones, which unites all lines again");
     let n = 1024;
     let clumps = [2, 10, 40].map(|percent| (format!("clumps {percent}%"), disks(r, n, percent)));
     let dense = [10, 50].map(|percent| (format!("noise {percent}%"), noise(r, n * n, percent)));
@@ -327,8 +342,10 @@ fn readings(r: &mut Random, tries: usize) {
         scan.feed(n, &cells);
         let look = (0..tries).fold(f64::MAX, |least, _| least.min(scan.feed(0, &[]))) * 1e3;
         let (runs, joins) = (scan.answer[1], scan.answer[2]);
-        let (a, b, c) = (scan.read::<u8>(tries), scan.read::<u16>(tries), scan.read::<u32>(tries));
-        println!("{what}, {runs:>6} runs, n {:>6}: {look:6.3} {a:6.3} {b:6.3} {c:6.3} {:6.3}", runs - joins, scan.sizes(tries));
+        let (a, b, c, sizes) = (scan.read::<u8>(tries), scan.read::<u16>(tries), scan.read::<u32>(tries), scan.sizes(tries));
+        // the last, as it changes the groups
+        let widen = scan.widen(tries);
+        println!("{what}, {runs:>6} runs, n {:>6}: {look:6.3} {a:6.3} {b:6.3} {c:6.3} {sizes:6.3} {widen:6.3}", runs - joins);
     }
 }
 

@@ -35,6 +35,9 @@ read-call-u32-requires c κs = tt
 sizes-call-requires : tie.Need-sizes-call-requires
 sizes-call-requires c κs = tt
 
+widen-call-requires : tie.Need-widen-call-requires
+widen-call-requires c κs = tt
+
 no-call-requires : tie.Need-no-call-requires
 no-call-requires c κs = tt
 
@@ -119,15 +122,33 @@ returns-5 c =
     (c .before .before .before .before .before .before .sizes-call .ensures (now (s .out8)) (now (s .out16)))
 
 same-length-15 : tie.Need-same-length-15
-same-length-15 c = c .before .answers6 .given
+same-length-15 c = c .before .before .before .words6 .given
+
+same-length-16 : tie.Need-same-length-16
+same-length-16 c = c .before .answers6 .given
 
 returns-6 : tie.Need-returns-6
+unfolding entryOf
 returns-6 c =
+    let s =
+    c .before .before .before .before .before .before .before .before .before .before .before .before .before .before .before .before
+    .before .args in
+    let rooms = roomsOf (now (s .out8)) (now (s .out16)) (now (s .out32)) in
+    entry-is (lentOf (now (s .u8s)) (now (s .u16s)) (now (s .i16s)) (now (s .f32s)) rooms) (s .e .a) (s .e .b) (s .e .c) (s .e .code) 8
+    (c .before .before .before .before .before .before .before .match .keys5)
+    (c .before .before .before .before .widen-call .ensures rooms)
+
+same-length-17 : tie.Need-same-length-17
+same-length-17 c = c .before .answers7 .given
+
+returns-7 : tie.Need-returns-7
+returns-7 c =
     let s = c .before .before .before .before .before .before .before .before .before .before .before .before .before .before .args in
     let r = c .before .before .before .before .match .rest in
     entry-none (lentOf (now (s .u8s)) (now (s .u16s)) (now (s .i16s)) (now (s .f32s))
     (roomsOf (now (s .out8)) (now (s .out16)) (now (s .out32)))) (s .e .a) (s .e .b) (s .e .c) (s .e .code)
-    (past 7 (past 6 (past 5 (past 4 (c .before .before .before .before .before .if1 .left) (r .0 .0 .0 .1)) (r .0 .0 .1)) (r .0 .1)) (r .1))
+    (past 8 (past 7 (past 6 (past 5 (past 4 (c .before .before .before .before .before .if1 .left) (r .0 .0 .0 .0 .1)) (r .0 .0 .0 .1))
+    (r .0 .0 .1)) (r .0 .1)) (r .1))
     (c .before .before .no-call .ensures (now (s .words)) (roomsOf (now (s .out8)) (now (s .out16)) (now (s .out32))))
 
 pub make-call-spec : {M : Type 1} → statement M
@@ -142,6 +163,7 @@ make-call-spec =
     read-call-u16-requires
     read-call-u32-requires
     sizes-call-requires
+    widen-call-requires
     no-call-requires
     same-length-3
     same-length-4
@@ -160,4 +182,7 @@ make-call-spec =
     same-length-14
     returns-5
     same-length-15
-    returns-6)
+    same-length-16
+    returns-6
+    same-length-17
+    returns-7)

@@ -1,5 +1,6 @@
 // This repository's calls beside the Rust's label_impl: the same frames to both, and every answer held against the other. Build and run it by
-// compare/frames. What it compares is told where it is done: here, small.rs, large.rs, lopsided.rs, refusals.rs, session.rs.
+// compare/frames. What it compares is told where it is done: here, small.rs, large.rs, lopsided.rs, refusals.rs, session.rs, and
+// session/changes.rs.
 #[path = "../../ours.rs"]
 #[macro_use]
 mod ours;
@@ -60,6 +61,7 @@ fn main() {
         ("large frames", large::all),
         ("refusals", refusals::all),
         ("sessions", session::all),
+        ("structure changes", session::changes::all),
     ] {
         let (start, before) = (Instant::now(), t.differed);
         part(&mut t, &mut r, frames, fault);

@@ -21,6 +21,8 @@ pub enum Fault {
     Word,
     Size,
     Edge,
+    /// After a structure change the old structure's groups are expected.
+    Structure,
 }
 
 impl Fault {
@@ -36,7 +38,8 @@ impl Fault {
             Ok("word") => Fault::Word,
             Ok("size") => Fault::Size,
             Ok("edge") => Fault::Edge,
-            Ok(other) => panic!("COMPARE_FAULT is label, count, runs, joins, cells, refusal, word, size or edge, not {other}"),
+            Ok("structure") => Fault::Structure,
+            Ok(other) => panic!("COMPARE_FAULT is label, count, runs, joins, cells, refusal, word, size, edge or structure, not {other}"),
         }
     }
 }
@@ -127,7 +130,7 @@ impl<N: Reads> Ours<N> {
     /// Spoils what a frame of so many lines answered.
     pub fn spoil(&mut self, fault: Fault, lines: usize) {
         match fault {
-            Fault::No => {}
+            Fault::No | Fault::Structure => {}
             Fault::Label => {
                 if let Some(v) = self.out.now_mut().last_mut() {
                     let zero: N = reference::ndimage::label::FromU32::from_u32(0);

@@ -1,8 +1,10 @@
-//! Sessions: a frame fed in pieces, with readings and size calls between, refused calls among them. The Rust labels the frame as far as it was
-//! fed, its other lines zero.
+//! Sessions: a frame fed in pieces, with readings, size calls and structure changes between, refused calls among them. The Rust labels the
+//! frame as far as it was fed, its other lines zero, under the session's last structure.
+
+pub mod changes;
 
 use crate::one::{Fault, spoil_size};
-use crate::ours::{ANSWER, Fed, Reads, label_open, label_record_words, label_sizes};
+use crate::ours::{ANSWER, Fed, Reads, label_open, label_record_words, label_sizes, label_widen};
 use drivers::frames::{below, cells, lines, make_lopsided, one_of, shape, size, structure};
 use drivers::kinds::Cell;
 use drivers::lent::Lent;
@@ -35,10 +37,14 @@ fn must(holds: bool, what: impl FnOnce() -> String) -> Held {
 }
 
 impl Session {
-    fn open(r: &mut Random, fault: Fault) -> Result<Session, String> {
+    fn random(r: &mut Random, fault: Fault) -> Result<Session, String> {
         let rank = 1 + below(r, 4);
-        let shape = shape(r, rank);
-        let structure = structure(r, rank);
+        let (shape, structure) = (shape(r, rank), structure(r, rank));
+        Session::open(r, shape, structure, fault)
+    }
+
+    fn open(r: &mut Random, shape: Vec<usize>, structure: Vec<u8>, fault: Fault) -> Result<Session, String> {
+        let rank = shape.len();
         let room = words_needed(&shape, &structure) + below(r, 3);
         let long = unsafe { label_record_words() } as usize + below(r, 3);
         let mut words = Lent::new(room, || r.next() as u32);
@@ -95,7 +101,7 @@ impl Session {
             Fault::Word => *self.words.now_mut().last_mut().expect("a word") ^= 1,
             Fault::Size => spoil_size(self.words.now_mut(), self.lines),
             Fault::Edge => unsafe { *self.record.pointer().add(self.record.len()) ^= 1 },
-            Fault::No | Fault::Label => {}
+            Fault::No | Fault::Label | Fault::Structure => {}
         }
         must(number == want, || format!("it returns {number}, and should return {want}"))?;
         must(answer.edges_stand() && self.words.edges_stand() && self.record.edges_stand(), || "an entry beside the memory lent was written".into())?;
@@ -238,7 +244,7 @@ impl Session {
         held
     }
 
-    /// A reading, a feed and a size call on such a record, with an answer of so many words: each returns `want`, and nothing is written.
+    /// Each kind of call on such a record, with an answer of so many words: it returns `want`, and nothing is written.
     fn refused(&mut self, r: &mut Random, record: Vec<u64>, places: usize, want: u32) -> Held {
         let mut record = Lent::of(&record, 7);
         let mut answer = Lent::new(places, || r.next());
@@ -253,14 +259,15 @@ impl Session {
                 u16::READ(p, n, words, room, out.pointer(), out.len(), answer.pointer(), places),
                 u8::FEED(p, n, words, room, 1, cells.as_ptr(), self.w, answer.pointer(), places),
                 label_sizes(p, n, words, room, sizes.pointer(), sizes.len(), answer.pointer(), places),
+                label_widen(p, n, words, room, self.structure.as_ptr(), self.structure.len(), answer.pointer(), places),
             ]
         };
-        must(numbers == [want; 3], || format!("a reading, a feed and a size call return {numbers:?}, and should return {want}"))?;
+        must(numbers == [want; 4], || format!("reading, feed, sizes and change return {numbers:?}, and should return {want}"))?;
         must(record.stands() && answer.stands() && out.stands() && sizes.stands() && self.words.stands(), || "a refusal writes".into())
     }
 
     fn call(&mut self, r: &mut Random) -> (&'static str, Held) {
-        match below(r, 16) {
+        match below(r, 18) {
             0 | 1 => ("feed u8", self.feed::<u8>(r)),
             2 => ("feed u16", self.feed::<u16>(r)),
             3 => ("feed i16", self.feed::<i16>(r)),
@@ -271,6 +278,7 @@ impl Session {
             11 => ("damaged", self.damaged(r)),
             12 => ("lopsided record", self.lopsided(r)),
             13 => ("damaged sizes", self.damaged_sizes(r)),
+            14 | 15 => self.change(r),
             _ => ("sizes", self.sizes(r)),
         }
     }
@@ -283,7 +291,7 @@ fn tell(s: &Session, why: &str) -> String {
 pub fn all(t: &mut Tally, r: &mut Random, frames: usize, fault: Fault) {
     reference::set_num_threads(1);
     for _ in 0..frames / 4 {
-        let mut s = match Session::open(r, fault) {
+        let mut s = match Session::random(r, fault) {
             Ok(s) => s,
             Err(e) => {
                 t.differs(|| format!("a session: {e}"));

@@ -8,10 +8,10 @@ use Rattle.label_test.proofs.damage.call_all.Statement.{statement}
 use Rattle.label_test.proofs.damage.call_all.Tie as tie
 
 abbrev Inv-loop : tie.InvT-loop
-Inv-loop session words₀ e n right state₀ kind₀ words state kind = length words ≡ length words₀
+Inv-loop session words₀ structure e n right state₀ kind₀ words state kind = length words ≡ length words₀
 
 abbrev μ-loop : tie.MeasureT-loop
-μ-loop session words₀ e n right state₀ kind₀ words state kind = 4 - kind
+μ-loop session words₀ structure e n right state₀ kind₀ words state kind = 5 - kind
 
 loop-holds : tie.Need-loop-holds Inv-loop μ-loop
 loop-holds c = search needs

@@ -6,10 +6,10 @@ use Rattle.label_test.proofs.damage.try_damages.Statement.{statement}
 use Rattle.label_test.proofs.damage.try_damages.Tie as tie
 
 abbrev Inv-loop : tie.InvT-loop
-Inv-loop session e words n state₀ d₀ state d = Unit {0}
+Inv-loop session e structure words n state₀ d₀ state d = Unit {0}
 
 abbrev μ-loop : tie.MeasureT-loop
-μ-loop session e words n state₀ d₀ state d = 37 - d
+μ-loop session e structure words n state₀ d₀ state d = 37 - d
 
 loop-holds : tie.Need-loop-holds Inv-loop μ-loop
 loop-holds c = tt

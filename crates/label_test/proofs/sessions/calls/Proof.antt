@@ -6,10 +6,10 @@ use Rattle.label_test.proofs.sessions.calls.Statement.{statement}
 use Rattle.label_test.proofs.sessions.calls.Tie as tie
 
 abbrev Inv-loop : tie.InvT-loop
-Inv-loop e structure flags words₀ laid₀ state₀ session₀ i₀ words laid state session i = Unit {0}
+Inv-loop e flags words₀ laid₀ state₀ session₀ i₀ words laid state session i = Unit {0}
 
 abbrev μ-loop : tie.MeasureT-loop
-μ-loop e structure flags words₀ laid₀ state₀ session₀ i₀ words laid state session i = 12 - i
+μ-loop e flags words₀ laid₀ state₀ session₀ i₀ words laid state session i = 12 - i
 
 loop-holds : tie.Need-loop-holds Inv-loop μ-loop
 loop-holds c = tt

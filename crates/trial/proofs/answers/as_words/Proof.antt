@@ -1,11 +1,11 @@
--- `trial::answers::widen` is safe and ends. Slices lent keep their length.
+-- `trial::answers::as_words` is safe and ends. Slices lent keep their length.
 -- Assumes nothing.
 use mathlib.Core.Path.{_≡_}
 use lib.ListN.{length}
 use borrow.Author.Needs.{needs}
 use Prim.Native.Nat.{_-_}
-use Rattle.trial.proofs.answers.widen.Statement.{statement}
-use Rattle.trial.proofs.answers.widen.Tie as tie
+use Rattle.trial.proofs.answers.as_words.Statement.{statement}
+use Rattle.trial.proofs.answers.as_words.Tie as tie
 
 abbrev Inv-loop : tie.InvT-loop
 Inv-loop kind x y got₀ i₀ i-end got i = length got ≡ length got₀
@@ -37,8 +37,8 @@ same-length c = search needs
 returns : tie.Need-returns Inv-loop μ-loop
 returns c = search needs
 
-pub widen-spec : {M : Type 1} → statement M
-widen-spec =
+pub as-words-spec : {M : Type 1} → statement M
+as-words-spec =
     tie.close
     (tie.spec
     Inv-loop
