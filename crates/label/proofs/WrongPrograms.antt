@@ -241,7 +241,7 @@ tells-old-joins : (s : Session) (ws : List ℕ) → Widening (fed 2 (f 2 0 2)) s
 unfolding begun bud computed
 tells-old-joins s ws P = let z : _≡_ {A = ℕ} 0 1 = ap joinsSaid (P .said) in omega arith
 
--- the root's fifth word is left; a name is changed; a line's start is
+-- the root's fifth word is left; a name is changed
 leaves-size : (a : Answer) (s : Session) (ws : List ℕ) → Widening a s ws → word (sizePlace 3 0) ws ≡ 1 → ⊥
 unfolding begun bud computed
 leaves-size a s ws P e = let z : word (sizePlace 3 0) ws ≡ 2 = P .accepted refl .sized 0 (omega arith) refl in omega arith
