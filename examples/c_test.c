@@ -1,6 +1,6 @@
 /* Tests of the C interface itself: refusals with their numbers and with nothing written, empty slices, words past a record and an
- * answer, sizes after each line and in damaged words, structure changes with all that they write, touches by a plain count, and each kind
- * on one small frame. It prints how many checks there were, and each that failed. */
+ * answer, sizes after each line and in damaged words, structure changes with all that they write, and each kind on one small frame. It
+ * prints how many checks there were, and each that failed. */
 #include "../include/label.h"
 
 #include <stdio.h>
@@ -103,7 +103,7 @@ static void test_open(void)
 static void test_session(void)
 {
     static const uint8_t expect[L * W] = {1, 0, 1, 1, 0, 1, 1, 1, 1};
-    static const uint64_t runs[L] = {2, 4, 5}, joins[L] = {0, 2, 4}, total[L] = {2, 4, 7}, touches[L] = {0, 2, 2};
+    static const uint64_t runs[L] = {2, 4, 5}, joins[L] = {0, 2, 4}, total[L] = {2, 4, 7};
     static const uint32_t of[L][2] = {{1, 1}, {2, 2}, {7, 77}};
     struct session s, before;
     uint8_t out[L * W];
@@ -115,12 +115,11 @@ static void test_session(void)
         before = s;
         CHECK(feed(&s, 1, line * W, W) == LABEL_OK);
         CHECK(s.answer[0] == line + 1 && s.answer[1] == runs[line] && s.answer[2] == joins[line] && s.answer[3] == total[line]);
-        CHECK(s.answer[4] == touches[line]);
-        CHECK(memcmp(s.answer + 5, before.answer + 5, (ANSWER + 2 - 5) * sizeof s.answer[0]) == 0);
+        CHECK(memcmp(s.answer + 4, before.answer + 4, (ANSWER + 2 - 4) * sizeof s.answer[0]) == 0);
         CHECK(memcmp(s.record + RECORD, before.record + RECORD, 2 * sizeof s.record[0]) == 0);
         CHECK(label_read_u8(s.record, RECORD, s.words, WORDS, out, L * W, s.answer, ANSWER) == LABEL_OK);
         CHECK(s.answer[0] == runs[line] - joins[line] && s.answer[1] == runs[line] && s.answer[2] == joins[line]);
-        CHECK(s.answer[3] == total[line] && s.answer[4] == touches[line] && s.record[RECORD - 1] == total[line]);
+        CHECK(s.answer[3] == total[line] && s.record[RECORD - 1] == total[line]);
         for (i = (line + 1) * W; i < L * W; i++)
             CHECK(out[i] == 0);
         /* The sizes after this line, in the words of the roots, which are the first runs, and copied from there. */
@@ -211,10 +210,8 @@ static void test_refusals(void)
     CHECK(label_sizes(s.record, RECORD, s.words, WORDS, sizes, 1, s.answer, ANSWER) == LABEL_LENGTH);
     CHECK(label_sizes(s.record, RECORD, s.words, WORDS, sizes, 2, s.answer, 0) == LABEL_SHORT);
     CHECK(same(&s, &before) && out[0] == 77 && out[L * W] == 77 && sizes[0] == 11 && sizes[1] == 12);
-    /* A feed of no lines is accepted, and changes nothing but the answer: it has no touches. */
+    /* A feed of no lines is accepted, and changes nothing but the answer. */
     CHECK(label_feed_u8(s.record, RECORD, s.words, WORDS, 0, NULL, 0, s.answer, ANSWER) == LABEL_OK);
-    CHECK(before.answer[4] == 2 && s.answer[4] == 0);
-    before.answer[4] = 0;
     CHECK(same(&s, &before));
 }
 
@@ -263,7 +260,7 @@ static void test_widen_refused(void)
 
 /* What an accepted structure change may write: the answer's first words, the record's structure and joins, and of the words the parents and
  * fifth words of the stored runs. All else is as it was. */
-static void check_widened(const struct session *before, const struct session *s, const uint8_t *structure, uint64_t joins, uint64_t touches)
+static void check_widened(const struct session *before, const struct session *s, const uint8_t *structure, uint64_t joins)
 {
     struct session want = *before;
     size_t i, runs = (size_t)before->record[87];
@@ -272,7 +269,6 @@ static void check_widened(const struct session *before, const struct session *s,
         want.record[5 + i] = i < 9 ? structure[i] : 0;
     want.record[88] = joins;
     memcpy(want.answer, want.record + 86, 4 * sizeof want.answer[0]);
-    want.answer[4] = touches;
     for (i = 0; i < runs; i++) {
         want.words[PARENT(i)] = s->words[PARENT(i)];
         want.words[SIZE(i)] = s->words[SIZE(i)];
@@ -292,14 +288,14 @@ static void test_widen(void)
     open_corners(&s);
     before = s;
     CHECK(widen(&s, nine_ones, 9) == LABEL_OK);
-    check_widened(&before, &s, nine_ones, 1, 1);
+    check_widened(&before, &s, nine_ones, 1);
     CHECK(s.answer[0] == 2 && s.answer[1] == 2 && s.answer[2] == 1 && s.answer[3] == 2);
     CHECK(s.words[PARENT(0)] == 0 && s.words[PARENT(1)] == 0 && s.words[SIZE(0)] == 2);
     CHECK(label_feed_u8(s.record, RECORD, s.words, WORDS, 1, corners + 2 * W, W, s.answer, ANSWER) == LABEL_OK);
-    CHECK(s.answer[0] == 3 && s.answer[1] == 3 && s.answer[2] == 2 && s.answer[3] == 3 && s.answer[4] == 1);
+    CHECK(s.answer[0] == 3 && s.answer[1] == 3 && s.answer[2] == 2 && s.answer[3] == 3);
     before = s;
     CHECK(widen(&s, others, 9) == LABEL_OK);
-    check_widened(&before, &s, others, 2, 2);
+    check_widened(&before, &s, others, 2);
     before = s;
     CHECK(widen(&s, cross, 9) == LABEL_NOT_WIDER && same(&s, &before));
     CHECK(label_sizes(s.record, RECORD, s.words, WORDS, &size, 1, s.answer, ANSWER) == LABEL_OK && size == 3);
@@ -315,7 +311,7 @@ static void test_widen_held(void)
     CHECK(open_session(&s) == LABEL_OK);
     before = s;
     CHECK(widen(&s, nine_ones, 9) == LABEL_OK);
-    check_widened(&before, &s, nine_ones, 0, 0);
+    check_widened(&before, &s, nine_ones, 0);
     CHECK(label_feed_u8(s.record, RECORD, s.words, WORDS, L, corners, L * W, s.answer, ANSWER) == LABEL_OK);
     CHECK(s.answer[0] == 3 && s.answer[1] == 3 && s.answer[2] == 2);
     open_two_lines(&s);
@@ -325,98 +321,9 @@ static void test_widen_held(void)
     CHECK(feed(&s, 0, 0, 0) == LABEL_OK && s.answer[2] == 3);
     before = s;
     CHECK(widen(&s, cross, 9) == LABEL_OK);
-    check_widened(&before, &s, cross, 2, 2);
+    check_widened(&before, &s, cross, 2);
     CHECK(s.words[SIZE(0)] == 2 && s.words[SIZE(1)] == 2 && s.words[PARENT(1)] == 1);
     CHECK(s.words[PARENT(2)] == 0 && s.words[PARENT(3)] == 1);
-}
-
-/* Whether a run begins in a column of a line, and the column after its last: where the left byte is zero each cell is a run. */
-static int begins(const uint8_t *line, const uint8_t *structure, int x)
-{
-    return line[x] != 0 && !(structure[3] != 0 && x > 0 && line[x - 1] != 0);
-}
-
-static int end_of(const uint8_t *line, const uint8_t *structure, int x)
-{
-    do
-        x++;
-    while (structure[3] != 0 && x < W && line[x] != 0);
-    return x;
-}
-
-/* Whether one of the first three bytes joins a cell of columns a up to b with one of the line before, of columns c up to d. */
-static int joined(const uint8_t *structure, int a, int b, int c, int d)
-{
-    int x, to;
-
-    for (x = a; x < b; x++)
-        for (to = c; to < d; to++)
-            if (to >= x - 1 && to <= x + 1 && structure[to - x + 1] != 0)
-                return 1;
-    return 0;
-}
-
-/* The touches of the lines from one up to another: each run with each run of the line before. */
-static uint64_t touches(const uint8_t *frame, const uint8_t *structure, size_t from, size_t to)
-{
-    uint64_t count = 0;
-    size_t line;
-    int x, y;
-
-    for (line = from > 1 ? from : 1; line < to; line++) {
-        const uint8_t *here = frame + line * W, *before = here - W;
-        for (x = 0; x < W; x++)
-            for (y = 0; y < W; y++)
-                if (begins(here, structure, x) && begins(before, structure, y))
-                    count += joined(structure, x, end_of(here, structure, x), y, end_of(before, structure, y)) != 0;
-    }
-    return count;
-}
-
-/* The fifth word of the answer in a session with a structure change after its first lines: of a feed the touches of its lines, of the
- * change those of all lines, so that what is reported from there on adds up. A refusal and a reading leave it; the next three stand. */
-static void check_touches(const uint8_t *frame, const uint8_t *structure, size_t first)
-{
-    enum { COUNT = L + 1 + STRIDE * L * W };
-    static uint32_t words[COUNT];
-    uint64_t record[RECORD], answer[ANSWER] = {1, 2, 3, 4, 5, 6, 7, 8}, sum;
-    uint8_t wide[9], out[L * W];
-    size_t i;
-
-    for (i = 0; i < 9; i++)
-        wide[i] = i / 3 == 1 ? structure[i] : 1;
-    CHECK(label_open(shape, 2, structure, 9, words, COUNT, record, RECORD) == LABEL_OK);
-    CHECK(label_feed_u8(record, RECORD, words, COUNT, first, frame, first * W, answer, ANSWER) == LABEL_OK);
-    CHECK(answer[4] == touches(frame, structure, 0, first));
-    CHECK(label_feed_u8(record, RECORD, words, COUNT, L + 1, frame, L * W, answer, ANSWER) == LABEL_LINES);
-    CHECK(label_widen(record, RECORD, words, COUNT, wide, 8, answer, ANSWER) == LABEL_STRUCTURE_LENGTH);
-    CHECK(answer[4] == touches(frame, structure, 0, first));
-    CHECK(label_feed_u8(record, RECORD, words, COUNT, 0, NULL, 0, answer, ANSWER) == LABEL_OK && answer[4] == 0);
-    CHECK(label_widen(record, RECORD, words, COUNT, wide, 9, answer, ANSWER) == LABEL_OK);
-    CHECK(answer[4] == touches(frame, wide, 0, first));
-    sum = answer[4];
-    CHECK(label_feed_u8(record, RECORD, words, COUNT, L - first, frame + first * W, (L - first) * W, answer, ANSWER) == LABEL_OK);
-    CHECK(answer[4] == touches(frame, wide, first, L));
-    CHECK(sum + answer[4] == touches(frame, wide, 0, L));
-    sum = answer[4];
-    CHECK(label_read_u8(record, RECORD, words, COUNT, out, L * W, answer, ANSWER) == LABEL_OK && answer[4] == sum);
-    CHECK(answer[5] == 6 && answer[6] == 7 && answer[7] == 8);
-}
-
-/* Every frame of three lines of three cells, under every symmetric structure. */
-static void test_touches(void)
-{
-    uint8_t frame[L * W], structure[9];
-    int bits, code, i;
-
-    for (bits = 0; bits < 512; bits++)
-        for (code = 0; code < 32; code++) {
-            for (i = 0; i < 9; i++) {
-                frame[i] = (uint8_t)(bits >> i & 1);
-                structure[i] = (uint8_t)(code >> (i < 5 ? i : 8 - i) & 1);
-            }
-            check_touches(frame, structure, (size_t)((bits + code) % (L + 1)));
-        }
 }
 
 /* Every word of the record set to what no record has, in turn: always 6, and nothing is written. */
@@ -476,7 +383,7 @@ static const float cellsf[L * W] = {1.0f, 0.0f, 0.5f, -2.0f, -0.0f, 1e-30f, 3.0f
             CHECK(label_frame_##cell##_##number(shape, 2, cross, 9, s.words, WORDS, values, L * W, out, L * W,       \
                                                 blocks, s.answer, ANSWER) == LABEL_OK);                              \
             CHECK(s.answer[0] == 1 && s.answer[1] == 5 && s.answer[2] == 4 && s.answer[3] == 7);                     \
-            CHECK(s.answer[4] == UINT64_C(0xa5a5a5a5a5a5a5a5) && s.words[SIZE(0)] == 7);                             \
+            CHECK(s.words[SIZE(0)] == 7);                                                                            \
             for (i = 0; i < L * W; i++)                                                                              \
                 CHECK(out[i] == cells[i]);                                                                           \
         }                                                                                                            \
@@ -497,7 +404,7 @@ static const float cellsf[L * W] = {1.0f, 0.0f, 0.5f, -2.0f, -0.0f, 1e-30f, 3.0f
         size_t i;                                                                                                    \
         CHECK(open_session(&s) == LABEL_OK);                                                                         \
         CHECK(label_feed_##cell(s.record, RECORD, s.words, WORDS, L, values, L * W, s.answer, ANSWER) == LABEL_OK);  \
-        CHECK(s.answer[0] == L && s.answer[1] == 5 && s.answer[2] == 4 && s.answer[3] == 7 && s.answer[4] == 4);     \
+        CHECK(s.answer[0] == L && s.answer[1] == 5 && s.answer[2] == 4 && s.answer[3] == 7);                         \
         CHECK(label_read_##number(s.record, RECORD, s.words, WORDS, out, L * W, s.answer, ANSWER) == LABEL_OK);      \
         for (i = 0; i < L * W; i++)                                                                                  \
             CHECK(out[i] == cells[i]);                                                                               \
@@ -596,7 +503,6 @@ int main(void)
     test_widen_refused();
     test_widen();
     test_widen_held();
-    test_touches();
     test_damage();
     KINDS(FRAME);
     KINDS(SESSION);

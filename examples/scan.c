@@ -41,7 +41,7 @@ static void print_numbers(void)
     }
 }
 
-/* Feeds a line, and prints the answer: all so far, but for the touches, which are those of this line with the one before. */
+/* Feeds a line, and prints the answer. */
 static uint32_t scan_line(int line, uint64_t *answer)
 {
     uint8_t cells[WIDTH];
@@ -52,8 +52,8 @@ static uint32_t scan_line(int line, uint64_t *answer)
         cells[x] = picture[line][x] == '#';
     result = label_feed_u8(record, LABEL_RECORD_WORDS, words, WORDS, 1, cells, WIDTH, answer, LABEL_ANSWER_WORDS);
     if (result == LABEL_OK)
-        printf("%s  lines %" PRIu64 "  runs %" PRIu64 "  joins %" PRIu64 "  groups %" PRIu64 "  cells %" PRIu64 "  touches %" PRIu64 "\n",
-               picture[line], answer[0], answer[1], answer[2], answer[1] - answer[2], answer[3], answer[4]);
+        printf("%s  lines %" PRIu64 "  runs %" PRIu64 "  joins %" PRIu64 "  groups %" PRIu64 "  cells %" PRIu64 "\n",
+               picture[line], answer[0], answer[1], answer[2], answer[1] - answer[2], answer[3]);
     return result;
 }
 

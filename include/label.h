@@ -74,9 +74,7 @@ uint32_t label_open(const size_t *shape, size_t rank,
 /* Feeds the next k lines of the frame, with their k x width cells. A cell counts by whether it is zero; of float +0.0 and -0.0
  * are zero, and NaN is not.
  * Accepted: answer[0] is lines fed, answer[1] runs, answer[2] joins, answer[3] nonzero cells, all so far, and the groups so far are
- * answer[1] - answer[2]. answer[4] is the touches of these k lines alone, 0 if k is 0: the pairs of runs, one in a line and one in a
- * neighbour line before it, that one offset of the structure's leading dimensions joins, counted once for each such offset. The record is
- * written, and of the words the new line starts, runs, parents and sizes.
+ * answer[1] - answer[2]. The record is written, and of the words the new line starts, runs, parents and sizes.
  * Returns 0, 100, 6, 7 or 8, looked for in this order; unless it is 0, nothing is written. */
 uint32_t label_feed_u8(uint64_t *record, size_t record_words,
                        uint32_t *words, size_t word_count,
@@ -99,9 +97,8 @@ uint32_t label_feed_f32(uint64_t *record, size_t record_words,
  * then on the session answers as if it had been opened with this structure.
  * Takes the new structure, as label_open does. A byte that is nonzero in the old one, the centre's too, must be nonzero in the new one, and
  * the left byte zero in both or in neither: so the runs, and the words needed, stay as they are.
- * Accepted: the answer as of a feed, its joins counted from the first line, and answer[4] the touches of all stored lines under the new
- * structure: a sum of touches over feeds starts again from there. The record is written, and of the words the parents and sizes of the
- * stored runs; names stand. Feeds may follow.
+ * Accepted: the answer as of a feed, its joins counted from the first line. The record is written, and of the words the parents and sizes
+ * of the stored runs; names stand. Feeds may follow.
  * Returns 0, 100, 6, 2, 12 or 19, looked for in this order; unless it is 0, nothing is written. */
 uint32_t label_widen(uint64_t *record, size_t record_words,
                      uint32_t *words, size_t word_count,

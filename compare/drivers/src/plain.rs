@@ -1,4 +1,4 @@
-//! The documents' definitions that need no labelling: the words needed, the runs, the touches, and what the words hold after a call.
+//! The documents' definitions that need no labelling: the words needed, the runs, and what the words hold after a call.
 
 use crate::frames::symmetric;
 use std::collections::HashMap;
@@ -61,55 +61,6 @@ pub fn runs(set: &[bool], w: usize, left: bool) -> Runs {
         r.before.push(r.at.len() as u32);
     }
     r
-}
-
-/// The run of each cell, the first being 1, and 0 where none is set.
-fn runs_of_cells(set: &[bool], w: usize, left: bool) -> Vec<usize> {
-    let mut n = 0;
-    let run_of = |i: usize| {
-        n += (set[i] && !(left && i % w > 0 && set[i - 1])) as usize;
-        if set[i] { n } else { 0 }
-    };
-    (0..set.len()).map(run_of).collect()
-}
-
-/// The line that a leading offset leads to from line `l`, if it is in the frame: by coordinates, the last first. The offset's code has a digit
-/// of base three for each leading dimension, which is one more than its part.
-fn neighbour(lead: &[usize], mut l: usize, mut code: usize) -> Option<usize> {
-    let (mut to, mut stride) = (0, 1);
-    for &d in lead.iter().rev() {
-        let x = (l % d + code % 3).checked_sub(1).filter(|&x| x < d)?;
-        to += x * stride;
-        (l, code, stride) = (l / d, code / 3, stride * d);
-    }
-    Some(to)
-}
-
-/// The touches of lines: the pairs of runs, one in one of these lines and one in a neighbour line, that one leading offset joins, counted once
-/// for each offset. They are found from cells, one byte and one cell after another.
-pub fn touches(set: &[bool], shape: &[usize], structure: &[u8], lines: std::ops::Range<usize>) -> u64 {
-    let (w, lead) = (shape[shape.len() - 1], &shape[..shape.len() - 1]);
-    let run_of = runs_of_cells(set, w, left_byte(structure));
-    let mut count = 0;
-    // the codes before the middle one are those of backward offsets
-    for code in 0..structure.len() / 3 / 2 {
-        // of each run the last one that it was joined with: a run's cells come one after another
-        let mut joined = vec![0; set.len() + 1];
-        for l in lines.clone() {
-            let Some(m) = neighbour(lead, l, code) else { continue };
-            for (x, t) in (0..w).flat_map(|x| (0..3).map(move |t| (x, t))) {
-                if structure[3 * code + t] == 0 || !(1..=w).contains(&(x + t)) {
-                    continue;
-                }
-                let (run, other) = (run_of[l * w + x], run_of[m * w + x + t - 1]);
-                if run != 0 && other != 0 && joined[other] != run {
-                    joined[other] = run;
-                    count += 1;
-                }
-            }
-        }
-    }
-    count
 }
 
 /// What a call did to the words.

@@ -26,8 +26,6 @@ use Rattle.link.specs.Lines.{runs_to, LineReady, UnitedIn}
 use Rattle.link.proofs.PartLaws.{sorted_rise, part_parents, part_runs, to_part, from_part}
 use Rattle.link.proofs.PartLaws.{in_others, in_parents, in_grouped, in_counted, in_sized, in_long}
 use Rattle.link.proofs.TouchByLaws.{leading_size}
-use Rattle.sweep.specs.Sweeps.{CountFits}
-use Rattle.block.specs.declared.Unions.{Unions}
 use Rattle.block.specs.Blocks.{brought_in, BlockReady, BlockUnited, ResetReady, ResetIn, touches_from}
 use Rattle.block.proofs.BlockResetLaws.{reset_start, reset_runs, reset_part}
 use Rattle.block.proofs.LineUnionLaws.{touches_stand, Going}
@@ -53,7 +51,7 @@ module _ (g : Geo) (structure ws : List ℕ) (fed k : ℕ) (R : BlockReady g.lea
   brings = brought_in L ws fed
 
   -- no line
-  pub block_idle : k ≡ 0 → BlockUnited n dims L structure ws ws fed k (record { joins = 0; touches = 0 })
+  pub block_idle : k ≡ 0 → BlockUnited n dims L structure ws ws fed k 0
   block_idle e =
       let f : fed + k ≡ fed = omega arith in
       let same : b ≡ a = ap (line_start ws) f in
@@ -69,7 +67,6 @@ module _ (g : Geo) (structure ws : List ℕ) (fed k : ℕ) (R : BlockReady g.lea
         counted = omega (arith, ap joins v);
         sized = subst (λ (x : ℕ). Sums (root_of (parent_of L ws)) (size_word L ws) brings x) (sym same)
             (brought_sums a (parent_of L ws) (size_word L ws) (λ r. run_length (stored_run L ws r)) R.parents);
-        touched = sym (ap length z);
         no_lines = λ q. refl;
       }
 
@@ -168,42 +165,36 @@ module _ (g : Geo) (structure ws : List ℕ) (fed k : ℕ) (R : BlockReady g.lea
     same_rep r = subst (λ (f : ℕ → ℕ). rep (grouping f b) r ≡ rep (grouping (parent_of L ws) a) r) (part_parents L ws')
         (subst (λ (f : ℕ → ℕ). rep (grouping (parent_in (drop (L + 1) ws')) b) r ≡ rep (grouping f a) r) (part_parents L ws) (stands.1 r))
 
-    -- the touches are as before
-    module _ (three : length dims ≡ 3) where
-      reset_touches : touches_from n dims L structure ws' fed k ≡ touches_from n dims L structure ws fed k
-      reset_touches = touches_stand (leading_of n dims) structure (line_start ws') (line_start ws) (stored_run L ws') (stored_run L ws) L
+    -- all of them are united
+    module _ (three : length dims ≡ 3) (i : ℕ) (h : i ≤ k) (l : k ≤ i) (end : List ℕ) (t : ℕ)
+        (G : Going n dims L structure ws' fed (fed + k - 1) i end t) where
+      es_same : touches_from n dims L structure ws' fed i ≡ touches_from n dims L structure ws fed k
+      es_same =
+          let e : i ≡ k = omega arith in
+          ap (touches_from n dims L structure ws' fed) e
+          ∙ touches_stand (leading_of n dims) structure (line_start ws') (line_start ws) (stored_run L ws') (stored_run L ws) L
           (reset_start L ws ws' fed k X) (reset_runs L ws ws' fed k X)
           (omega (arith, leading_size n dims L R.leading three)) fed k R.within
-
-      pub reset_countable : CountFits 0 (touches_from n dims L structure ws' fed k)
-      reset_countable = subst (CountFits 0) (sym reset_touches) R.countable
-
-    -- all of them are united
-    module _ (three : length dims ≡ 3) (i : ℕ) (h : i ≤ k) (l : k ≤ i) (end : List ℕ) (u : Unions)
-        (G : Going n dims L structure ws' fed (fed + k - 1) i end u) where
-      es_same : touches_from n dims L structure ws' fed i ≡ touches_from n dims L structure ws fed k
-      es_same = let e : i ≡ k = omega arith in ap (touches_from n dims L structure ws' fed) e ∙ reset_touches three
 
       abbrev es : List Edge
       es = touches_from n dims L structure ws fed k
 
-      E : UnitedIn L ws' end b es u.joins
-      E = subst (λ (x : ℕ). UnitedIn L ws' end x es u.joins) end_start
-          (subst (λ (l : List Edge). UnitedIn L ws' end (runs_to ws' last) l u.joins) es_same G.united)
+      E : UnitedIn L ws' end b es t
+      E = subst (λ (x : ℕ). UnitedIn L ws' end x es t) end_start
+          (subst (λ (l : List Edge). UnitedIn L ws' end (runs_to ws' last) l t) es_same G.united)
 
-      pub block_united : BlockUnited n dims L structure ws end fed k u
+      pub block_united : BlockUnited n dims L structure ws end fed k t
       block_united = record {
-        long = in_long L ws' end b es u.joins E (omega (arith, X.long, R.room)) ∙ X.long;
-        others = λ j o. in_others L ws' end b es u.joins E j o ∙ X.others j (λ r c d. o r d);
-        parents = in_parents L ws' end b es u.joins E;
-        grouped = λ r h. in_grouped L ws' end b es u.joins E r h
-            ∙ rep_over es (grouping (parent_of L ws') b) (grouping (parent_of L ws) a) same_rep r;
+        long = in_long L ws' end b es t E (omega (arith, X.long, R.room)) ∙ X.long;
+        others = λ j o. in_others L ws' end b es t E j o ∙ X.others j (λ r c d. o r d);
+        parents = in_parents L ws' end b es t E;
+        grouped =
+            λ r h. in_grouped L ws' end b es t E r h ∙ rep_over es (grouping (parent_of L ws') b) (grouping (parent_of L ws) a) same_rep r;
         counted = omega (
           arith,
-          in_counted L ws' end b es u.joins E,
+          in_counted L ws' end b es t E,
           joins_over es (grouping (parent_of L ws') b) (grouping (parent_of L ws) a) same_rep,
         );
-        sized = in_sized L ws' end b es u.joins E brings reset_sums;
-        touched = omega (arith, G.touched, ap length es_same);
+        sized = in_sized L ws' end b es t E brings reset_sums;
         no_lines = λ e. absurd (omega arith);
       }

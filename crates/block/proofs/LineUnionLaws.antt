@@ -1,7 +1,7 @@
 -- Lines united one after another, where the runs of the later lines are groups of their own.
 -- Assumes nothing.
-use mathlib.Core.Path.{◌≡◌, refl, sym, ap, ◌∙◌, subst}
-use mathlib.Core.List.{List, [], append-nil}
+use mathlib.Core.Path.{◌≡◌, sym, ap, ◌∙◌, subst}
+use mathlib.Core.List.{List, append-nil}
 use Prim.Native.Nat.{ℕ, suc, ◌+◌, ◌^◌, ◌≤◌, ◌<◌}
 use native.Mathlib.Nat.{le_refl}
 use native.Mathlib.Omega.{arith}
@@ -19,12 +19,9 @@ use Rattle.forest.proofs.SizeLaws.{sizes_fewer}
 use Rattle.geo.specs.declared.Geo.{Geo}
 use Rattle.geo.specs.Geometry.{leading_of}
 use Rattle.link.specs.Lines.{runs_to, LinesReady, LineReady, UnitedIn, touches_in}
-use Rattle.link.proofs.PartLaws.{part_parents, part_ready, starts_rise, in_start, in_others, in_runs, none_added, in_ready, in_then}
+use Rattle.link.proofs.PartLaws.{part_parents, part_ready, starts_rise, in_start, in_others, in_runs, in_none, in_ready, in_then}
 use Rattle.link.proofs.TouchByLaws.{leading_size}
-use Rattle.link.proofs.TouchCountLaws.{next_fits, next_counted}
-use Rattle.sweep.specs.Sweeps.{CountFits, Counted}
 use Rattle.sweep.proofs.TurnLaws.{united_few}
-use Rattle.block.specs.declared.Unions.{Unions}
 use Rattle.block.specs.Blocks.{touches_from}
 use Rattle.block.proofs.WideLaws.{united_wide}
 
@@ -57,11 +54,9 @@ lines_fewer L ws ℓ R m h =
       small = omega (arith, R.small, sizes_fewer (parent_of L ws) (size_word L ws) (runs_to ws m) (runs_to ws ℓ) rise);
     }
 
--- of the lines from `fed` on up to line `last` the first i are united and their touches counted, and the runs of the others are their own
--- parents
-pub record Going (n : ℕ) (dims : List ℕ) (L : ℕ) (structure ws : List ℕ) (fed last i : ℕ) (now : List ℕ) (u : Unions) : Type 0 where
-  pub united : UnitedIn L ws now (runs_to ws last) (touches_from n dims L structure ws fed i) u.joins
-  pub touched : Counted 0 u.touches (touches_from n dims L structure ws fed i)
+-- of the lines from `fed` on up to line `last` the first i are united, and the runs of the others are their own parents
+pub record Going (n : ℕ) (dims : List ℕ) (L : ℕ) (structure ws : List ℕ) (fed last i : ℕ) (now : List ℕ) (t : ℕ) : Type 0 where
+  pub united : UnitedIn L ws now (runs_to ws last) (touches_from n dims L structure ws fed i) t
   pub own : (r : ℕ) → line_start ws (fed + i) ≤ r → r < runs_to ws last → parent_of L now r ≡ r
 
 module _ (g : Geo) (structure ws : List ℕ) (fed last : ℕ) (R : LineReady g structure ws last) (three : length g.dims ≡ 3) where
@@ -106,60 +101,50 @@ module _ (g : Geo) (structure ws : List ℕ) (fed last : ℕ) (R : LineReady g s
       ))
 
   pub going_none : ((r : ℕ) → line_start ws fed ≤ r → r < runs_to ws last → parent_of g.lines ws r ≡ r)
-      → Going g.leads g.dims g.lines structure ws fed last 0 ws (record { joins = 0; touches = 0 })
-  unfolding touches gather
+      → Going g.leads g.dims g.lines structure ws fed last 0 ws 0
   going_none own =
       let e : fed + 0 ≡ fed = omega arith in
-      let none = none_added L ws last R.lines [] refl 0 in
-      record { united = none.0; touched = none.1; own = λ r a h. own r (subst (λ (x : ℕ). line_start ws x ≤ r) e a) h }
+      record {
+        united = unfold touches gather in in_none L ws last R.lines;
+        own = λ r a h. own r
+            (subst (λ (x : ℕ). line_start ws x ≤ r) e a) h;
+      }
 
-  module _ (i : ℕ) (h : fed + i ≤ suc last) (now : List ℕ) (u : Unions) (G : Going n dims L structure ws fed last i now u) where
+  module _ (i : ℕ) (h : fed + i ≤ suc last) (now : List ℕ) (t : ℕ) (G : Going n dims L structure ws fed last i now t) where
     ends : Ends (λ r. r < N) (of fed i)
     ends = of_ends fed i (suc last) h (le_refl (suc last))
 
     -- how many joins there can be
-    pub going_few : u.joins ≤ runs_to ws last
+    pub going_few : t ≤ runs_to ws last
     going_few = united_few (part_ready L ws last R.lines).parents ends G.united.runs
 
     ready : LinesReady L now last
-    ready = in_ready L ws last R.lines now (of fed i) u.joins G.united
+    ready = in_ready L ws last R.lines now (of fed i) t G.united
 
     same_start : (m : ℕ) → m ≤ suc last → line_start now m ≡ line_start ws m
-    same_start m l = in_start L ws now N (of fed i) u.joins G.united m (omega (arith, R.lines.within))
+    same_start m l = in_start L ws now N (of fed i) t G.united m (omega (arith, R.lines.within))
 
     -- the next line
     module _ (l : fed + i ≤ last) where
       pub going_ready : LineReady g structure now (fed + i)
       going_ready = record { leading = R.leading; bytes = R.bytes; lines = lines_fewer L now last ready (fed + i) l }
 
-      line_same : touches_in g structure now (fed + i) ≡ touches_in g structure ws (fed + i)
-      line_same = line_stands ds structure (line_start now) (line_start ws) (stored_run L now) (stored_run L ws) (suc last) same_start
-          (in_runs L ws now N (of fed i) u.joins G.united) (omega (arith, R.lines.within, size_is)) (fed + i) (omega arith)
+      line_same : touches_in g structure now (fed + i) ≡ of (fed + i) 1
+      line_same =
+          line_stands ds structure (line_start now) (line_start ws) (stored_run L now) (stored_run L ws) (suc last) same_start
+          (in_runs L ws now N (of fed i) t G.united) (omega (arith, R.lines.within, size_is)) (fed + i) (omega arith)
+          ∙ (unfold touches gather in sym (append-nil (touches_in g structure ws (fed + i))))
 
-      -- a count that holds the touches of all k lines holds those of the next
-      pub going_fits : (k : ℕ) → i < k → CountFits 0 (touches_from n dims L structure ws fed k)
-          → CountFits u.touches (touches_in g structure now (fed + i))
-      unfolding touches
-      going_fits k b F = subst (CountFits u.touches) (sym line_same)
-          (next_fits (touches_of ds structure (line_start ws) (stored_run L ws)) fed i 0 u.touches G.touched k b F)
+      module _ (next : List ℕ) (u : ℕ) (F : UnitedIn L now next (runs_to now (fed + i)) (touches_in g structure now (fed + i)) u) where
+        here : UnitedIn L now next (runs_to now (fed + i)) (of (fed + i) 1) u
+        here = subst (λ (es : List Edge). UnitedIn L now next (runs_to now (fed + i)) es u) line_same F
 
-      module _ (next : List ℕ) (t c : ℕ) (F : UnitedIn L now next (runs_to now (fed + i)) (touches_in g structure now (fed + i)) t
-          × Counted u.touches c (touches_in g structure now (fed + i))) where
-        here : UnitedIn L now next (runs_to now (fed + i)) (of (fed + i) 1) t
-        here = subst (λ (es : List Edge). UnitedIn L now next (runs_to now (fed + i)) es t)
-            (line_same ∙ (unfold touches gather in sym (append-nil (touches_in g structure ws (fed + i))))) F.0
-
-        more : Counted 0 c (of fed (i + 1))
-        unfolding touches
-        more = next_counted (touches_of ds structure (line_start ws) (stored_run L ws)) fed i 0 u.touches G.touched c
-            (subst (Counted u.touches c) line_same F.1)
-
-        wide : UnitedIn L now next (runs_to now last) (of (fed + i) 1) t
+        wide : UnitedIn L now next (runs_to now last) (of (fed + i) 1) u
         wide = record {
           starts = here.starts;
           runs = united_wide (drop (L + 1) now) (drop (L + 1) next) (runs_to now (fed + i)) (runs_to now last)
               (part_ready L now last ready).parents
-              (starts_rise L now last ready (suc (fed + i)) (suc last) (omega arith) (le_refl (suc last))) own_now (of (fed + i) 1) t
+              (starts_rise L now last ready (suc (fed + i)) (suc last) (omega arith) (le_refl (suc last))) own_now (of (fed + i) 1) u
               (subst (λ (x : ℕ). Ends (λ r. r < x) (of (fed + i) 1)) (sym (same_start (suc (fed + i)) (omega arith)))
               (of_ends (fed + i) 1 (suc (fed + i)) (omega arith) (omega arith))) here.runs;
         }
@@ -173,16 +158,15 @@ module _ (g : Geo) (structure ws : List ℕ) (fed last : ℕ) (R : LineReady g s
                   rise (fed + i) (suc (fed + i)) (omega arith) (omega arith),
                 )) (omega (arith, same_start (suc last) (le_refl (suc last)))))
 
-        pub going_then : Going n dims L structure ws fed last (i + 1) next (record { joins = u.joins + t; touches = c })
+        pub going_then : Going n dims L structure ws fed last (i + 1) next (t + u)
         going_then = record {
-          united = subst (λ (es : List Edge). UnitedIn L ws next N es (u.joins + t))
+          united = subst (λ (es : List Edge). UnitedIn L ws next N es (t + u))
               (sym (touches_split ds structure (line_start ws) (stored_run L ws) fed i 1))
-              (in_then L ws last R.lines now (of fed i) u.joins G.united ends next (of (fed + i) 1) t wide);
-          touched = more;
+              (in_then L ws last R.lines now (of fed i) t G.united ends next (of (fed + i) 1) u wide);
           own = λ r a b.
               let e : fed + (i + 1) ≡ suc (fed + i) = omega arith in
               let s : line_start ws (suc (fed + i)) ≤ r = subst (λ (x : ℕ). line_start ws x ≤ r) e a in
-              in_others L now next (runs_to now (fed + i)) (of (fed + i) 1) t here (parent_place L r) (λ x k. (
+              in_others L now next (runs_to now (fed + i)) (of (fed + i) 1) u here (parent_place L r) (λ x k. (
                 omega (arith, same_start (suc (fed + i)) (omega arith)),
                 omega (arith, same_start (suc (fed + i)) (omega arith)),
               ))

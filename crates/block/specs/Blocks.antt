@@ -9,10 +9,9 @@ use Rattle.frame.specs.Words.{line_place, start_place, end_place, parent_place, 
 use Rattle.frame.specs.Words.{stored_run, NoGroupWord}
 use Rattle.runs.specs.declared.Counts.{Counts}
 use Rattle.forest.specs.Forest.{root_of, grouping, Sums, brought}
-use Rattle.sweep.specs.Sweeps.{InOrder, CountFits}
+use Rattle.sweep.specs.Sweeps.{InOrder}
 use Rattle.geo.specs.declared.Geo.{Geo}
 use Rattle.geo.specs.Geometry.{leading_of, ThreeDims}
-use Rattle.block.specs.declared.Unions.{Unions}
 
 -- ---- extraction
 
@@ -61,12 +60,8 @@ Extracts g fed runs k flags ws ws' c = Block g.left g.width g.lines fed runs k f
 abbrev pub brought_in : ℕ → List ℕ → ℕ → ℕ → ℕ
 brought_in L ws fed r = brought (line_start ws fed) (parent_of L ws) (size_word L ws) (λ s. run_length (stored_run L ws s)) r
 
--- the touches of the new lines, as the words hold the runs
-abbrev pub touches_from : ℕ → List ℕ → ℕ → List ℕ → List ℕ → ℕ → ℕ → List Edge
-touches_from n dims L structure ws fed k = touches (leading_of n dims) structure (line_start ws) (stored_run L ws) fed k
-
 -- what it asks: the leading dimensions, a structure of rank n + 1, each line's runs in order, parents of the runs before the new lines
--- that are not above their runs, that a word holds the sum of what all runs bring, and that 64 bits hold the count of their touches
+-- that are not above their runs, and that a word holds the sum of what all runs bring
 pub record BlockReady (n : ℕ) (dims : List ℕ) (L : ℕ) (structure ws : List ℕ) (fed k : ℕ) : Type 0 where
   pub leading : ThreeDims n dims L
   pub bytes : 3 ^ suc n ≤ length structure
@@ -75,7 +70,6 @@ pub record BlockReady (n : ℕ) (dims : List ℕ) (L : ℕ) (structure ws : List
   pub sorted : (m : ℕ) → m < fed + k → InOrder (stored_run L ws) (line_start ws m) (line_start ws (suc m))
   pub parents : (r : ℕ) → r < line_start ws fed → parent_of L ws r ≤ r
   pub small : sum_over (λ r. true) (brought_in L ws fed) (line_start ws (fed + k)) < 4294967296
-  pub countable : CountFits 0 (touches_from n dims L structure ws fed k)
 
 -- what making the new lines' runs groups of their own asks, and what it does: every other word stands
 pub record ResetReady (L : ℕ) (ws : List ℕ) (fed k : ℕ) : Type 0 where
@@ -91,17 +85,19 @@ pub record ResetIn (L : ℕ) (ws ws' : List ℕ) (fed k : ℕ) : Type 0 where
       → ((r : ℕ) → line_start ws fed ≤ r → r < line_start ws (fed + k) → (j ≢ parent_place L r) × (j ≢ size_place L r))
       → get_or ws' j 0 ≡ get_or ws j 0
 
--- what it does: the new lines' touches are counted, and added one after the other to the grouping of the runs before them; so many of
--- those unions were joins. A root's size is then the sum of what its group's runs bring. Only group words change, and with no lines not
--- they
-pub record BlockUnited (n : ℕ) (dims : List ℕ) (L : ℕ) (structure ws ws' : List ℕ) (fed k : ℕ) (u : Unions) : Type 0 where
+-- the touches of the new lines, as the words hold the runs
+abbrev pub touches_from : ℕ → List ℕ → ℕ → List ℕ → List ℕ → ℕ → ℕ → List Edge
+touches_from n dims L structure ws fed k = touches (leading_of n dims) structure (line_start ws) (stored_run L ws) fed k
+
+-- what it does: the new lines' touches are added, one after the other, to the grouping of the runs before them, and t of those unions
+-- were joins. A root's size is then the sum of what its group's runs bring. Only group words change, and with no lines not they
+pub record BlockUnited (n : ℕ) (dims : List ℕ) (L : ℕ) (structure ws ws' : List ℕ) (fed k t : ℕ) : Type 0 where
   pub long : length ws' ≡ length ws
   pub others : (j : ℕ) → NoGroupWord L (line_start ws (fed + k)) j → get_or ws' j 0 ≡ get_or ws j 0
   pub parents : (r : ℕ) → r < line_start ws (fed + k) → parent_of L ws' r ≤ r
   pub grouped : (r : ℕ) → r < line_start ws (fed + k)
       → root_of (parent_of L ws') r ≡ rep (visit (touches_from n dims L structure ws fed k) (grouping (parent_of L ws) (line_start ws fed))) r
-  pub counted : u.joins + joins (grouping (parent_of L ws) (line_start ws fed))
+  pub counted : t + joins (grouping (parent_of L ws) (line_start ws fed))
       ≡ joins (visit (touches_from n dims L structure ws fed k) (grouping (parent_of L ws) (line_start ws fed)))
   pub sized : Sums (root_of (parent_of L ws')) (size_word L ws') (brought_in L ws fed) (line_start ws (fed + k))
-  pub touched : u.touches ≡ length (touches_from n dims L structure ws fed k)
   pub no_lines : k ≡ 0 → ws' ≡ ws

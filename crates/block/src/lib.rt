@@ -1,8 +1,7 @@
 // Lines of a feed: their runs are extracted, then united with their neighbours. Nothing here knows a record.
 //
 //     extract_block_T   the runs of new lines, for each kind of cell: line starts, starts and ends; and the count of nonzero cells
-//     union_block       the union of new lines with their neighbours, once their runs are there: parents and sizes; and how many unions
-//                       were joins, and how many touches there are
+//     union_block       the union of new lines with their neighbours, once their runs are there: parents and sizes
 ghost use Rattle.std.specs.Prelude.{map};
 ghost use Rattle.frame.specs.Kinds.{nz, nzℤ, nz_f};
 ghost use Rattle.block.specs.Blocks.{RoomFor, Extracts, BlockReady, BlockUnited, ResetReady, ResetIn};
@@ -136,31 +135,24 @@ pub fn extract_block_f32(
 
 // ---- union
 
-// The unions of lines: how many were joins, and the touches of those lines, each pair of runs once for each offset.
-#[derive(Drop)]
-pub struct Unions {
-    pub joins: usize,
-    pub touches: usize,
-}
-
-// Unites each of the `k` lines after the first `fed` with its neighbours. The new runs are at first groups of their own.
-pub fn union_block(words: &mut [u32], g: geo::Geo, structure: &[u8], fed: usize, k: usize) -> Unions
+// Unites each of the `k` lines after the first `fed` with its neighbours; how many of those unions were joins. The new runs are at
+// first groups of their own.
+pub fn union_block(words: &mut [u32], g: geo::Geo, structure: &[u8], fed: usize, k: usize) -> usize
     requires { BlockReady g.leads g.dims g.lines structure.now words.old fed k }
     ensures { BlockUnited g.leads g.dims g.lines structure.now
         words.old words.new fed k result }
 {
-    let mut joins: usize = 0;
-    let mut touches: usize = 0;
     if k == 0 {
-        return Unions { joins, touches };
+        return 0;
     }
     reset_block(words, g.lines, fed, k);
+    let mut joins: usize = 0;
     let mut done: usize = 0;
     while done < k {
-        joins += link::union_line(words, g, structure, fed + done, &mut touches);
+        joins += link::union_line(words, g, structure, fed + done);
         done += 1;
     }
-    Unions { joins, touches }
+    joins
 }
 
 // Makes the runs of the `k` lines after the first `fed` groups of their own.

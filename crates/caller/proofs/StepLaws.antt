@@ -46,7 +46,7 @@ step_call {a = a} by A es end R = record {
 }
 
 pub step_none : {s : Session} {ws : List ℕ} {rooms : Rooms} {buf buf' : List ℕ} {i j : ℕ}
-    → Adds (eight_numbers no_call 0 zero_figures 0) buf i buf' j
+    → Adds (eight_numbers no_call 0 zero_figures) buf i buf' j
     → Steps no_call (stand s ws rooms buf i) (stand s ws rooms buf' j)
 unfolding calls_of woven rooms_after
 step_none A es end R = record { answered = R.answered; trace = R.trace; rooms = R.rooms; adds = adds_then A R.adds }

@@ -78,15 +78,14 @@ calls_of (no_call ∷ es) = calls_of es
 abbrev pub no_call : ℕ
 no_call = 101
 
--- eight numbers for what is answered: 0 or a cause, lines fed or n, the figures, the touches of a feed or a structure change, and zeros for
--- the rest
-abbrev pub eight_numbers : ℕ → ℕ → Figures → ℕ → List ℕ
-eight_numbers number count f touches = number ∷ count ∷ f.runs ∷ f.joins ∷ f.cells ∷ touches ∷ 0 ∷ 0 ∷ []
+-- eight numbers for what is answered: 0 or a cause, lines fed or n, the figures, and zeros for the rest
+abbrev pub eight_numbers : ℕ → ℕ → Figures → List ℕ
+eight_numbers number count f = number ∷ count ∷ f.runs ∷ f.joins ∷ f.cells ∷ 0 ∷ 0 ∷ 0 ∷ []
 
 abbrev pub answer_numbers : Answer → List ℕ
-answer_numbers (fed l f t) = eight_numbers 0 l f t
-answer_numbers (counted n f) = eight_numbers 0 n f 0
-answer_numbers (refused c) = eight_numbers c 0 zero_figures 0
+answer_numbers (fed l f) = eight_numbers 0 l f
+answer_numbers (counted n f) = eight_numbers 0 n f
+answer_numbers (refused c) = eight_numbers c 0 zero_figures
 
 -- and then what the output holds, place by place
 abbrev pub output_numbers : Written → List ℕ
@@ -100,6 +99,6 @@ numbers_of a = answer_numbers a.said ++ output_numbers a.written
 -- the answers of the calls, with those of what is no call in their places. Each call has its answer
 unfoldable pub woven : List Entry → List Answered → List ℕ
 woven [] az = []
-woven (no_call ∷ es) az = eight_numbers no_call 0 zero_figures 0 ++ woven es az
+woven (no_call ∷ es) az = eight_numbers no_call 0 zero_figures ++ woven es az
 woven (call c ∷ es) [] = []
 woven (call c ∷ es) (a ∷ az) = numbers_of a ++ woven es az

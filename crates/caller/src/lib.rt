@@ -61,37 +61,34 @@ fn put_four(answers: &mut [u64], at: usize, a: u64, b: usize, c: usize, d: usize
     put(answers, fourth, d as u64)
 }
 
-// The eight numbers of an answer: 0 or a cause, lines fed or n, the figures, touches, and zeros.
+// The eight numbers of an answer: 0 or a cause, lines fed or n, the figures, and zeros.
 fn put_answer(
     answers: &mut [u64],
     at: usize,
     number: u64,
     count: usize,
     figures: frame::Figures,
-    touches: usize,
 ) -> usize
-    ensures { Adds (eight_numbers number count figures touches) answers.old at answers.new result }
+    ensures { Adds (eight_numbers number count figures) answers.old at answers.new result }
 {
     let next = put_four(answers, at, number, count, figures.runs, figures.joins);
-    put_four(answers, next, figures.cells as u64, touches, 0, 0)
+    put_four(answers, next, figures.cells as u64, 0, 0, 0)
 }
 
 // Of a refusal, and of what is no call: its number alone.
 fn put_number(answers: &mut [u64], at: usize, number: u64) -> usize
-    ensures { Adds (eight_numbers number 0 zero_figures 0) answers.old at answers.new result }
+    ensures { Adds (eight_numbers number 0 zero_figures) answers.old at answers.new result }
 {
-    put_answer(answers, at, number, 0, frame::Figures::zero(), 0)
+    put_answer(answers, at, number, 0, frame::Figures::zero())
 }
 
 fn put_fed(answers: &mut [u64], at: usize, answer: label::FeedAnswer) -> usize
     ensures { Adds (answer_numbers (feed_answer answer)) answers.old at answers.new result }
 {
     match answer {
-        label::FeedAnswer::Accepted {
-            lines,
-            figures,
-            touches,
-        } => put_answer(answers, at, 0, lines, figures, touches),
+        label::FeedAnswer::Accepted { lines, figures } => {
+            put_answer(answers, at, 0, lines, figures)
+        }
         label::FeedAnswer::Refused(cause) => put_number(answers, at, cause.number() as u64),
     }
 }
@@ -100,7 +97,7 @@ fn put_read(answers: &mut [u64], at: usize, answer: label::ReadAnswer) -> usize
     ensures { Adds (answer_numbers (read_answer answer)) answers.old at answers.new result }
 {
     match answer {
-        label::ReadAnswer::Accepted { n, figures } => put_answer(answers, at, 0, n, figures, 0),
+        label::ReadAnswer::Accepted { n, figures } => put_answer(answers, at, 0, n, figures),
         label::ReadAnswer::Refused(cause) => put_number(answers, at, cause.number() as u64),
     }
 }

@@ -9,7 +9,7 @@ use lib.IntN.{pos, negsuc}
 use lib.ListN.{replicate}
 use Rattle.frame.specs.Runs.{run_of}
 use Rattle.frame.specs.Kinds.{u16, u8s, u16s, i16s, f32s, nz, nzℤ, nz_f, flags, u32, u8}
-use Rattle.frame.specs.Plain.{Call, feed, read, sizes, widen, fed, counted, refused, nothing, numbers, counts, State, reported_by, reported}
+use Rattle.frame.specs.Plain.{Call, feed, read, sizes, widen, fed, counted, refused, nothing, numbers, counts, State}
 use Rattle.label.proofs.CallFunctions.{do_open}
 use Rattle.label.proofs.MeetLaws.{open_met}
 use Rattle.label.proofs.Worked.{computed, frame, cross, memory, line, whole, f, begun, row}
@@ -44,29 +44,24 @@ ran : Ran
 ran = do_calls begun.session begun.words calls
 
 answers_right : ran.answers ≡
-    record { said = fed 1 (f 2 0 2) 0; written = nothing }
+    record { said = fed 1 (f 2 0 2); written = nothing }
     ∷ record { said = refused 7; written = nothing }
     ∷ record { said = refused 8; written = nothing }
-    ∷ record { said = fed 2 (f 4 2 4) 2; written = nothing }
+    ∷ record { said = fed 2 (f 4 2 4); written = nothing }
     ∷ record { said = counted 2 (f 4 2 4); written = numbers u8 (1 ∷ 0 ∷ 2 ∷ 1 ∷ 0 ∷ 2 ∷ 0 ∷ 0 ∷ 0 ∷ []) }
     ∷ record { said = refused 9; written = numbers u16 (replicate 8 5) }
     ∷ record { said = counted 2 (f 4 2 4); written = numbers u16 (1 ∷ 0 ∷ 2 ∷ 1 ∷ 0 ∷ 2 ∷ 0 ∷ 0 ∷ 0 ∷ []) }
     ∷ record { said = refused 9; written = counts (5 ∷ []) }
     ∷ record { said = refused 2; written = nothing }
-    ∷ record { said = fed 2 (f 4 2 4) 2; written = nothing }
+    ∷ record { said = fed 2 (f 4 2 4); written = nothing }
     ∷ record { said = refused 19; written = nothing }
-    ∷ record { said = fed 2 (f 4 2 4) 0; written = nothing }
-    ∷ record { said = fed 3 (f 5 4 7) 2; written = nothing }
+    ∷ record { said = fed 2 (f 4 2 4); written = nothing }
+    ∷ record { said = fed 3 (f 5 4 7); written = nothing }
     ∷ record { said = counted 1 (f 5 4 7); written = counts (7 ∷ []) }
     ∷ record { said = counted 1 (f 5 4 7); written = numbers u32 (1 ∷ 0 ∷ 1 ∷ 1 ∷ 0 ∷ 1 ∷ 1 ∷ 1 ∷ 1 ∷ []) }
     ∷ []
 unfolding ran calls begun computed do_calls flags nz nzℤ nz_f
 answers_right = refl
-
--- since the structure change 2, 0 and 2 touches are reported, which are all that its lines have under nine ones
-reports_right : reported 0 calls ran.answers ≡ 4
-unfolding ran calls begun computed do_calls flags nz nzℤ nz_f reported_by reported
-reports_right = refl
 
 -- the theorem speaks of it
 demand_met : Demand3 frame cross calls ran.answers ran.session ran.words

@@ -1,12 +1,9 @@
 -- Demand 3: the theorem. What it says, clause by clause, is specs/Demand3.antt.
 -- Assumes nothing.
-use mathlib.Core.Path.{◌≡◌, sym, ap, ap₂, ◌∙◌, subst}
+use mathlib.Core.Path.{◌≡◌, sym, ap₂, ◌∙◌, subst}
 use mathlib.Core.List.{List}
-use Prim.Native.Nat.{ℕ, ◌<◌}
-use lib.ListN.{length}
-use Rattle.frame.specs.Plain.{Call, Answered, State, opened, plain, after, reported}
-use Rattle.frame.proofs.CauseLaws.{rank_right}
-use Rattle.frame.proofs.ReportLaws.{opened_reports}
+use Prim.Native.Nat.{ℕ}
+use Rattle.frame.specs.Plain.{Call, Answered, State, opened, plain, after}
 use Rattle.label.specs.declared.Session.{Session}
 use Rattle.label.specs.Record.{shape_of}
 use Rattle.label.specs.Opening.{OpenPromise}
@@ -35,8 +32,6 @@ demand3 shape structure ws₀ number s ws O z calls answers s' ws' T =
       same = same;
       right = subst (λ (az : List Answered). AllRight shape (opened structure) calls az) (sym same)
           (plain_right shape (opened structure) calls);
-      touched = ap (reported 0 calls) same ∙ opened_reports shape structure calls
-          (subst (λ (dims : List ℕ). 0 < length dims) B.shaped (rank_right (shape_of s) B.keeps.is_sound.shape.ranked).0);
       afterwards =
           subst (λ (dims : List ℕ). Afterwards dims (after shape (opened structure) calls) s' ws') (F.shaped ∙ B.shaped)
           (subst (λ (p : State). Afterwards (shape_of s') p s' ws') state (afterwards s' ws' F.keeps));

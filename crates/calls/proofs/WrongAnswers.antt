@@ -8,13 +8,11 @@ use lib.ListN.{replicate}
 use Rattle.groups.specs.Groups.{one}
 use Rattle.frame.specs.ChainRule.{label, size_of}
 use Rattle.frame.specs.Runs.{run_of}
-use Rattle.frame.specs.Kinds.{u8, u8s, nz, flags}
-use Rattle.frame.specs.Touches.{touch_count}
-use Rattle.frame.specs.Plain.{feed, Answer, fed, counted, refused, nothing, State, cause, changed, next, after, reported_by, reported}
+use Rattle.frame.specs.Kinds.{u8}
+use Rattle.frame.specs.Plain.{Answer, fed, counted, refused, State}
 use Rattle.frame.proofs.ChainRuleLaws.{label_right, label_group}
 use Rattle.label.proofs.Worked.{computed, frame, cross, line, f, row}
-use Rattle.label.specs.declared.Session.{Session}
-use Rattle.calls.specs.Demand3.{Right, Reads, Sizes, Grouped, Demand3}
+use Rattle.calls.specs.Demand3.{Right, Reads, Sizes, Grouped}
 use Rattle.calls.proofs.AfterLaws.{number_is}
 
 -- after two lines of document 01's frame 1
@@ -22,11 +20,11 @@ abbrev two : State
 two = record { structure = cross; fed = 2; cells = line ++ line }
 
 -- joins padded with idle unions; runs invented with them; runs counted as n; the total of the feed before; 6
-padded_joins : Right frame two (fed 2 (f 4 3 4) 2) → ⊥
+padded_joins : Right frame two (fed 2 (f 4 3 4)) → ⊥
 unfolding computed
 padded_joins P = let z : ◌≡◌ {A = ℕ} 4 5 = P.1.balance in omega arith
 
-invented_runs : Right frame two (fed 2 (f 5 3 4) 2) → ⊥
+invented_runs : Right frame two (fed 2 (f 5 3 4)) → ⊥
 unfolding computed
 invented_runs P = let z : ◌≡◌ {A = ℕ} 5 4 = P.1.runs_defined in omega arith
 
@@ -34,25 +32,12 @@ runs_as_n : Right frame two (counted 4 (f 4 0 4)) → ⊥
 unfolding computed
 runs_as_n P = let z : ◌≡◌ {A = ℕ} 4 2 = P.0 in omega arith
 
-total_kept : Right frame two (fed 2 (f 4 2 2) 2) → ⊥
+total_kept : Right frame two (fed 2 (f 4 2 2)) → ⊥
 unfolding computed
 total_kept P = let z : ◌≡◌ {A = ℕ} 2 4 = P.1.total in omega arith
 
 six : Right frame two (refused 6) → ⊥
 six P = P refl
-
--- of both lines fed at once: a pair is reported twice; the last one is not
-abbrev Reported : ℕ → Session → List ℕ → Type 0
-Reported t = Demand3 frame cross (feed 2 (u8s (1 ∷ 0 ∷ 1 ∷ 1 ∷ 0 ∷ 1 ∷ [])) ∷ [])
-    (record { said = fed 2 (f 4 2 4) t; written = nothing } ∷ [])
-
-reported_twice : (s : Session) (ws : List ℕ) → Reported 3 s ws → ⊥
-unfolding computed after next changed cause flags nz reported_by reported touch_count
-reported_twice s ws D = let z : ◌≡◌ {A = ℕ} 3 2 = D.touched in omega arith
-
-last_not_reported : (s : Session) (ws : List ℕ) → Reported 1 s ws → ⊥
-unfolding computed after next changed cause flags nz reported_by reported touch_count
-last_not_reported s ws D = let z : ◌≡◌ {A = ℕ} 1 2 = D.touched in omega arith
 
 -- all nonzero cells are numbered 1; each run apart; numbers do not come by first appearance; unfed cells are left as they were
 all_one : (a : Answer) → Reads frame two u8 a (1 ∷ 0 ∷ 1 ∷ 1 ∷ 0 ∷ 1 ∷ 0 ∷ 0 ∷ 0 ∷ []) → ⊥

@@ -9,9 +9,8 @@ use Rattle.frame.specs.ChainRule.{nonzero, Step, Labelled, group_count}
 use Rattle.frame.specs.Scipy.{ScipyLabelled}
 use Rattle.frame.specs.Runs.{runs, nonzero_cells, run_of, SmallestRun}
 use Rattle.frame.specs.Kinds.{Number, largest, Value, write, value}
-use Rattle.frame.specs.Touches.{touch_count}
 use Rattle.frame.specs.declared.Figures.{Figures}
-use Rattle.frame.specs.Plain.{Call, Answer, fed, counted, refused, Answered, State, opened, next, plain, after, reported}
+use Rattle.frame.specs.Plain.{Call, Answer, fed, counted, refused, Answered, State, opened, next, plain, after}
 use Rattle.frame.specs.Words.{parent_of, size_word}
 use Rattle.forest.specs.Forest.{root_of}
 use Rattle.label.specs.declared.Session.{Session}
@@ -23,10 +22,6 @@ module _ (shape : List ℕ) where
   abbrev groups_in : State → ℕ
   groups_in p = group_count shape p.structure p.cells
 
-  -- document 02's touches of those lines
-  abbrev touches_fed : State → ℕ
-  touches_fed p = touch_count shape p.structure p.cells 0 p.fed
-
   -- ---- every answer of the list
 
   -- "In every accepted answer runs = n + joins, runs and n being those document 01 defines for the lines fed by then"
@@ -36,10 +31,9 @@ module _ (shape : List ℕ) where
     -- document 02, F-1: "the nonzero cells so far"
     pub total : f.cells ≡ nonzero_cells p.cells
 
-  -- so of a feed's answer, which has the lines fed (of its touches `touched` below speaks), and of a reading's or size call's, which has
-  -- n. Of a refusal: 6 never comes
+  -- so of a feed's answer, which has the lines fed, and of a reading's or size call's, which has n. Of a refusal: 6 never comes
   abbrev pub Right : State → Answer → Type 0
-  Right p (fed l f t) = (l ≡ p.fed) × Balanced p f
+  Right p (fed l f) = (l ≡ p.fed) × Balanced p f
   Right p (counted n f) = (n ≡ groups_in p) × Balanced p f
   Right p (refused c) = c ≢ 6
 
@@ -119,9 +113,6 @@ module _ (shape : List ℕ) where
     pub same : answers ≡ plain shape (opened structure) calls
     -- "In every accepted answer runs = n + joins"
     pub right : AllRight (opened structure) calls answers
-    -- document 02, F-14: "For every list of feeds after an opening the reported touches add up to the definition's for the lines fed; the
-    -- structure change of F-12 reports those of all stored lines under the new structure, and the sum starts again from there"
-    pub touched : reported 0 calls answers ≡ touches_fed (after shape (opened structure) calls)
     -- "After every such list, a reading .."
     pub afterwards : Afterwards (after shape (opened structure) calls) s ws
     -- "Parents are the one free part .."

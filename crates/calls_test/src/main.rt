@@ -1,5 +1,5 @@
 // Makes long random lists of calls by caller::make_calls, refused ones and no calls among them, and compares every number of the answers
-// with a plain session over the flood fill. The touches reported since the last structure change must add up to those of all lines fed.
+// with a plain session over the flood fill.
 mod plain;
 
 use flood::{Count, Extent, plus, times};
@@ -42,14 +42,14 @@ fn say_number(wanted: &mut [u64; 16384], at: usize, x: u64) {
     }
 }
 
-// The eight numbers of an answer, of which the last two are 0.
+// The eight numbers of an answer, of which the last three are 0.
 fn say(wanted: &mut [u64; 16384], at: usize, answer: Answer) {
     say_number(wanted, at, answer.number as u64);
     say_number(wanted, plus(at, 1), answer.count as u64);
     say_number(wanted, plus(at, 2), answer.figures.runs as u64);
     say_number(wanted, plus(at, 3), answer.figures.joins as u64);
     say_number(wanted, plus(at, 4), answer.figures.cells as u64);
-    say_number(wanted, plus(at, 5), answer.touches as u64);
+    say_number(wanted, plus(at, 5), 0);
     say_number(wanted, plus(at, 6), 0);
     say_number(wanted, plus(at, 7), 0);
 }
@@ -182,25 +182,13 @@ fn one_call(
     let answer = answer_to(e, structure, cells, frame, call, count, now.fed);
     tally::add(state, CALLS);
     count_answer(state, answer.number);
-    let of_change = call.code == 8;
-    tally::add_many(
-        state,
-        plus(tally::TOUCHES, of_change as usize),
-        answer.touches,
-    );
-    if of_change {
+    if call.code == 8 {
         count_change(state, e, now.fed, answer.number);
     }
     say_all(e, call, answer, &marks, now, wanted)
 }
 
-// What a list should come to: the count of numbers answered, and the touches of all lines fed, under the structure that they then have.
-#[derive(Drop)]
-struct Outcome {
-    places: usize,
-    touches: usize,
-}
-
+// Gives the count of numbers answered.
 fn all_calls(
     e: Extent,
     structure: &[u8],
@@ -209,7 +197,7 @@ fn all_calls(
     count: usize,
     wanted: &mut [u64; 16384],
     state: &mut [u64; 48],
-) -> Outcome {
+) -> usize {
     let mut frame = [0u8; 640];
     let mut bytes = samples::padded(structure);
     let under = samples::lend_u8(&mut bytes, structure.len());
@@ -217,74 +205,17 @@ fn all_calls(
     for i in 0..count {
         now = one_call(e, under, cells, &mut frame, list, i, wanted, now, state);
     }
-    Outcome {
-        places: now.at,
-        touches: plain::all_touches(e, under, &frame, now.fed),
-    }
+    now.at
 }
 
 // Numbers left over at the end of a list are no call.
-fn say_rest(
-    rest: usize,
-    before: Outcome,
-    wanted: &mut [u64; 16384],
-    state: &mut [u64; 48],
-) -> Outcome {
+fn say_rest(rest: usize, at: usize, wanted: &mut [u64; 16384], state: &mut [u64; 48]) -> usize {
     if rest == 0 {
-        return before;
+        return at;
     }
-    say(wanted, before.places, answers::refused(plain::NO_CALL));
+    say(wanted, at, answers::refused(plain::NO_CALL));
     count_answer(state, plain::NO_CALL);
-    Outcome {
-        places: plus(before.places, 8),
-        touches: before.touches,
-    }
-}
-
-// ---- the reports
-
-// The touches reported since the last accepted structure change, its own report included, and where the next answer begins.
-#[derive(Drop)]
-struct Reports {
-    touches: u64,
-    at: usize,
-}
-
-fn number_at(given: &[u64; 16384], at: usize) -> u64 {
-    if at < 16384 { given[at] } else { 0 }
-}
-
-fn entry(list: &[usize; 256], at: usize) -> usize {
-    if at < 256 { list[at] } else { 0 }
-}
-
-// After a call of this code, and of so many places if it is a reading or the size call.
-fn after_call(given: &[u64; 16384], code: usize, places: usize, now: Reports) -> Reports {
-    let number = number_at(given, now.at);
-    let has_output = (code > 3) & (code < 8) & (number != plain::NO_CALL as u64);
-    let at = plus(plus(now.at, 8), times(places, has_output as usize));
-    if (number != 0) | ((code > 3) & (code != 8)) {
-        return Reports {
-            touches: now.touches,
-            at,
-        };
-    }
-    let before = if code == 8 { 0 } else { now.touches };
-    let report = number_at(given, plus(now.at, 5));
-    Reports {
-        touches: std::num::wrapping_add_u64(before, report),
-        at,
-    }
-}
-
-// After the calls of a list.
-fn reported(given: &[u64; 16384], list: &[usize; 256], calls: usize) -> u64 {
-    let mut now = Reports { touches: 0, at: 0 };
-    for i in 0..calls {
-        let from = times(4, i);
-        now = after_call(given, entry(list, from), entry(list, plus(from, 1)), now);
-    }
-    now.touches
+    plus(at, 8)
 }
 
 // ---- the calls made
@@ -316,7 +247,7 @@ fn make(
     )
 }
 
-// Makes the calls of the list, and compares: an opening refused with this cause, or accepted, and then the outcome.
+// Makes the calls of the list, and compares: an opening refused with this cause, or accepted, and then so many numbers.
 fn make_alike(
     shape: &[usize],
     structure: &[u8],
@@ -325,7 +256,7 @@ fn make_alike(
     list: &[usize; 256],
     used: usize,
     cause: usize,
-    outcome: Outcome,
+    count: usize,
     wanted: &[u64; 16384],
 ) -> bool {
     let mut words = [7u32; 3841];
@@ -341,8 +272,7 @@ fn make_alike(
     );
     let opening = made.opening;
     let opened = answers::opening(opening) == cause;
-    let summed = reported(&given, list, used / 4) == outcome.touches as u64;
-    opened & (made.places == outcome.places) & answers_alike(&given, wanted) & summed
+    opened & (made.places == count) & answers_alike(&given, wanted)
 }
 
 // ---- one list
@@ -380,12 +310,12 @@ fn try_calls(
         &mut wanted,
         state,
     );
-    let outcome = say_rest(times(rest, asked), said, &mut wanted, state);
+    let places = say_rest(times(rest, asked), said, &mut wanted, state);
     let used = plus(times(4, count), rest);
     let short = (cause == 5) as usize;
     let memory = flood::less(flood::layout::words_needed(e), short);
     let agreed = make_alike(
-        shape, structure, memory, cells, &list, used, cause, outcome, &wanted,
+        shape, structure, memory, cells, &list, used, cause, places, &wanted,
     );
     tally::count(state, tally::TRIED, cause, agreed);
 }
@@ -446,11 +376,6 @@ fn report(state: &[u64; 48]) {
         state,
         b"structure changes: #\n  accepted: #\n  before the first line: #\n  after the last: #\n",
         tally::CHANGES,
-    );
-    tally::report(
-        state,
-        b"touches that feeds report: #\ntouches that structure changes report: #\n",
-        tally::TOUCHES,
     );
     tally::report(state, b"openings and calls accepted: #\n", tally::REFUSED);
     tally::report(state, b"refused 2: #\n", tally::REFUSED_2);

@@ -1,5 +1,4 @@
-// A plain session of its own: the lines fed, the structure that they are under, and by flood fill what each call should answer, with
-// touches counted cell by cell.
+// A plain session of its own: the lines fed, the structure that they are under, and by flood fill what each call should answer.
 use flood::{Count, Extent, less, plus, times};
 use samples::{below, next};
 use trial::answers;
@@ -58,8 +57,7 @@ pub fn feed(
     copy_bytes(frame, times(before, e.width), cells, call.b, call.c);
     let fed = plus(before, call.a);
     let count = flood::number_cells(e, structure, frame, times(fed, e.width), &mut marks);
-    let touches = flood::touches::count(e, structure, frame, before, call.a);
-    answers::fed(fed, count, touches)
+    answers::accepted(fed, count)
 }
 
 // ---- structure changes
@@ -84,12 +82,7 @@ pub fn widen(
     }
     copy_bytes(structure, 0, new, 0, call.c);
     let count = flood::number_cells(e, structure, frame, times(fed, e.width), &mut marks);
-    answers::fed(fed, count, all_touches(e, structure, frame, fed))
-}
-
-// The touches of all lines fed.
-pub fn all_touches(e: Extent, structure: &[u8], frame: &[u8; 640], fed: usize) -> usize {
-    flood::touches::count(e, structure, frame, 0, fed)
+    answers::accepted(fed, count)
 }
 
 // ---- structures among the cells

@@ -14,9 +14,10 @@ use Rattle.frame.specs.Lists.{padded}
 use Rattle.frame.specs.Causes.{Test, first_cause, open_tests, open_cause, rest_tests, frame_tests, frame_cause}
 use Rattle.frame.proofs.EntryLaws.{entries_padded}
 use Rattle.frame.proofs.ShapeLaws.{size_lines_lem}
-use Rattle.frame.proofs.CauseLaws.{accepted, first_none, open_real, Allowed, open_accepted, within_limits}
+use Rattle.frame.proofs.CauseLaws.{accepted, first_none, open_real, Allowed, open_accepted}
 use Rattle.geo.specs.declared.Geo.{Geo}
 use Rattle.geo.specs.Geometry.{GeoOf}
+use Rattle.geo.proofs.GeoLaws.{within_limits}
 use Rattle.causes.specs.declared.Checked.{Checked}
 use Rattle.causes.specs.Cases.{check_number}
 use Rattle.causes.specs.Checks.{Found}

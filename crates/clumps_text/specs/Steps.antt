@@ -88,6 +88,6 @@ pub record Labels (shape structure : List ℕ) (cells : List Bool) (a : Answer) 
 
 -- what an answer prints, with the numbers of an accepted one. A feed's is printed nowhere
 abbrev pub answer_text : Answer → List ℕ → List ℕ
-answer_text (fed l f t) numbers = []
+answer_text (fed l f) numbers = []
 answer_text (counted n f) numbers = labelled_text n f numbers
 answer_text (refused c) numbers = refusal_text c

@@ -1,11 +1,10 @@
-// A plain labelling by flood fill, cell by cell, the words that document 01 lays out for it, the touches of lines, and the causes of a
-// structure change: what the test programs compare with. It calls no other crate.
+// A plain labelling by flood fill, cell by cell, the words that document 01 lays out for it, and the causes of a structure change: what the
+// test programs compare with. It calls no other crate.
 //
 // Nothing is promised of what these functions answer; they are safe and they end. A read out of range gives 0, a write there does nothing,
 // sums wrap, and a product with a number of 65,536 or more is 0.
 pub mod changes;
 pub mod layout;
-pub mod touches;
 
 // ---- guarded access
 

@@ -1,16 +1,19 @@
--- Unions along a list of edges: one, none, one list after another; and how many roots are left.
+-- Unions along a list of edges: one, none, one list after another, another list that joins the same runs; and how many roots are left.
 -- Assumes nothing.
 use mathlib.Core.Path.{◌≡◌, refl, sym, ap, ◌∙◌}
+use mathlib.Core.Logic.{inl, inr, ◌⊎◌}
 use mathlib.Core.Bool.{Bool, true, false, not, cond}
-use mathlib.Core.List.{List, [], ◌∷◌, ◌++◌}
+use mathlib.Core.List.Memᴰ
+use mathlib.Core.List.{List, [], ◌∷◌, ◌++◌, Memᴰ}
 use Prim.Native.Nat.{ℕ, ◌+◌, ◌<◌}
 use native.Mathlib.Nat.{le_refl}
 use native.Mathlib.Omega.{arith}
 use lib.Dec.{eqb}
+use Rattle.groups.specs.Groups as Groups
 use Rattle.groups.specs.Groups.{Edge, rep, joins, visit}
-use Rattle.groups.proofs.RepLaws.{Ends}
-use Rattle.groups.proofs.GroupLaws.{groups_joins, all_live}
-use Rattle.groups.proofs.VisitLaws.{visit_append, rep_over, joins_over, ends_visit}
+use Rattle.groups.proofs.RepLaws.{Ends, rep_same}
+use Rattle.groups.proofs.GroupLaws.{groups_joins, all_live, joins_same}
+use Rattle.groups.proofs.VisitLaws.{visit_append, visit_joined, joined_visit, rep_over, joins_over, ends_visit}
 use Rattle.forest.specs.Forest.{root_of, own, roots, grouping, root_sizes}
 use Rattle.forest.specs.Unions.{parent_in, size_in, Parents, Sized, Union, United}
 use Rattle.forest.proofs.ForestLaws.{grouping_rep, grouping_rep_all, grouping_ends, roots_groups, roots_grouping}
@@ -93,6 +96,44 @@ module _ (p : List ℕ) (n : ℕ) (P : Parents p n) where
         let before = groups_joins (λ r. true) n (held p n) (grouping_ends (parent_in p) n P.low) (all_live (held p n)) in
         let now = roots_groups (parent_in q) n U.kept.low (visit es (held p n)) U.grouped n (le_refl n) in
         omega (arith, after, before, now, roots_grouping (parent_in p) n P.low, U.counted)
+
+    -- another list that joins the same runs
+    pub united-same : (fs : List Edge) → Ends (λ r. r < n) fs → ((a b : ℕ) → Groups.Joined es a b → Groups.Joined fs a b)
+        → ((a b : ℕ) → Groups.Joined fs a b → Groups.Joined es a b) → United p q n fs t
+    united-same fs v f g = record {
+      kept = U.kept;
+      grouped = λ r h. U.grouped r h ∙ rep_same (visit es (held p n)) (visit fs (held p n)) (over es fs f) (over fs es g) r;
+      counted =
+          U.counted
+          ∙ joins_same n (visit es (held p n)) (visit fs (held p n)) visit_ends
+          (ends_visit (λ r. r < n) fs (held p n) v (grouping_ends (parent_in p) n P.low)) (over es fs f) (over fs es g);
+      sized = U.sized;
+    }
+      where
+        old : List Edge
+        old = held p n
+
+        Within : List Edge → List Edge → Type 0
+        Within xs ys = (a b : ℕ) → Groups.Joined xs a b → Groups.Joined ys a b
+
+        ahead : (xs : List Edge) → Within xs (xs ++ old)
+        ahead xs a b (inl m) = inl (Memᴰ.append_left old m)
+        ahead xs a b (inr m) = inr (Memᴰ.append_left old m)
+
+        part : (xs ys : List Edge) → Within xs ys → Within (xs ++ old) (ys ++ old)
+        part xs ys k a b (inl m) = one (Memᴰ.append_cases xs m)
+          where
+            one : Memᴰ (record { from = a; to = b }) xs ⊎ Memᴰ (record { from = a; to = b }) old → Groups.Joined (ys ++ old) a b
+            one (inl i) = ahead ys a b (k a b (inl i))
+            one (inr i) = inl (Memᴰ.append_right ys i)
+        part xs ys k a b (inr m) = one (Memᴰ.append_cases xs m)
+          where
+            one : Memᴰ (record { from = b; to = a }) xs ⊎ Memᴰ (record { from = b; to = a }) old → Groups.Joined (ys ++ old) a b
+            one (inl i) = ahead ys a b (k a b (inr i))
+            one (inr i) = inr (Memᴰ.append_right ys i)
+
+        over : (xs ys : List Edge) → Within xs ys → Within (visit xs old) (visit ys old)
+        over xs ys k a b h = joined_visit ys old a b (part xs ys k a b (visit_joined xs old a b h))
 
 -- so no union overflows after others either
 pub united_sized : (p q : List ℕ) (n : ℕ) (es : List Edge) (t : ℕ) → Sized p n → United p q n es t → Sized q n

@@ -22,6 +22,3 @@ pub mod CauseLaws
 pub mod WiderLaws
 pub mod ScipyLaws
 pub mod PlainLaws
-pub mod TouchBounds
-pub mod DearestLaws
-pub mod ReportLaws

@@ -33,8 +33,8 @@ abbrev o : ℕ → List ℕ
 o k = replicate k 9
 
 -- answers: a feed's, a reading's with its numbers, a size call's with its counts, and refusals of each
-abbrev fed_all : ℕ → ℕ → ℕ → ℕ → ℕ → Answered
-fed_all l r j c t = record { said = fed l (record { runs = r; joins = j; cells = c }) t; written = nothing }
+abbrev fed_all : ℕ → ℕ → ℕ → ℕ → Answered
+fed_all l r j c = record { said = fed l (record { runs = r; joins = j; cells = c }); written = nothing }
 
 abbrev got : (kind : Number) → ℕ → ℕ → ℕ → ℕ → List (Value kind) → Answered
 got kind g r j c ns = record { said = counted g (record { runs = r; joins = j; cells = c }); written = numbers kind ns }
@@ -51,15 +51,15 @@ no_numbers kind c ns = record { said = refused c; written = numbers kind ns }
 abbrev no_counts : ℕ → List ℕ → Answered
 no_counts c ns = record { said = refused c; written = counts ns }
 
--- a whole frame of u8 cells, fed at once and read: its cells, n, runs, joins, nonzero cells, touches and numbers
-whole : List ℕ → List ℕ → List ℕ → ℕ → ℕ → ℕ → ℕ → ℕ → List ℕ → Frame
-whole shape structure cells g r j c t ns =
+-- a whole frame of u8 cells, fed at once and read: its cells, n, runs, joins, nonzero cells and numbers
+whole : List ℕ → List ℕ → List ℕ → ℕ → ℕ → ℕ → ℕ → List ℕ → Frame
+whole shape structure cells g r j c ns =
     record {
       shape = shape;
       structure = structure;
       memory = 1000;
       calls = feed (lines shape) (u8s cells) ∷ read u32 (o (size shape)) ∷ [];
-      answers = fed_all (lines shape) r j c t ∷ got u32 g r j c ns ∷ [];
+      answers = fed_all (lines shape) r j c ∷ got u32 g r j c ns ∷ [];
     }
 
 -- an opening alone: with its refusal, or accepted
@@ -87,18 +87,18 @@ nine =
       structure = C;
       memory = 34;
       calls = feed 1 (u8s (d 3 101)) ∷ read u8 (o 9) ∷ feed 1 (u8s (d 3 101)) ∷ read u8 (o 9) ∷ feed 1 (u8s (d 3 111)) ∷ read u8 (o 9) ∷ [];
-      answers = fed_all 1 2 0 2 0 ∷ got u8 2 2 0 2 (d 9 102000000) ∷ fed_all 2 4 2 4 2 ∷ got u8 2 4 2 4 (d 9 102102000)
-          ∷ fed_all 3 5 4 7 2 ∷ got u8 1 5 4 7 (d 9 101101111) ∷ [];
+      answers = fed_all 1 2 0 2 ∷ got u8 2 2 0 2 (d 9 102000000) ∷ fed_all 2 4 2 4 ∷ got u8 2 4 2 4 (d 9 102102000)
+          ∷ fed_all 3 5 4 7 ∷ got u8 1 5 4 7 (d 9 101101111) ∷ [];
     }
     -- 2
-    ∷ whole (3 ∷ 4 ∷ []) C (d 12 110100011011) 3 5 2 7 2 (d 12 110200023022)
+    ∷ whole (3 ∷ 4 ∷ []) C (d 12 110100011011) 3 5 2 7 (d 12 110200023022)
     -- 3
-    ∷ whole (2 ∷ 2 ∷ []) C (d 4 1001) 2 2 0 2 0 (d 4 1002)
-    ∷ whole (2 ∷ 2 ∷ []) F (d 4 1001) 1 2 1 2 1 (d 4 1001)
+    ∷ whole (2 ∷ 2 ∷ []) C (d 4 1001) 2 2 0 2 (d 4 1002)
+    ∷ whole (2 ∷ 2 ∷ []) F (d 4 1001) 1 2 1 2 (d 4 1001)
     -- 4
-    ∷ whole (2 ∷ 3 ∷ []) (d 9 101000101) (d 6 111111) 2 6 4 6 4 (d 6 121212)
+    ∷ whole (2 ∷ 3 ∷ []) (d 9 101000101) (d 6 111111) 2 6 4 6 (d 6 121212)
     -- 5, of which document 02's F-4 makes the structures 100 and 001 refusals
-    ∷ whole (3 ∷ []) (d 3 10) (d 3 111) 3 3 0 3 0 (d 3 123)
+    ∷ whole (3 ∷ []) (d 3 10) (d 3 111) 3 3 0 3 (d 3 123)
     ∷ opening (3 ∷ []) (d 3 100) 1000 (no 12 ∷ [])
     ∷ opening (3 ∷ []) (d 3 1) 1000 (no 12 ∷ [])
     -- 6
@@ -107,14 +107,14 @@ nine =
       structure = d 3 111;
       memory = 12;
       calls = feed 1 (f32s (fin true 0 (pos 0) ∷ nan ∷ fin false 0 (pos 0) ∷ fin false 1 (pos 0) ∷ [])) ∷ read u8 (o 4) ∷ [];
-      answers = fed_all 1 2 0 2 0 ∷ got u8 2 2 0 2 (d 4 102) ∷ [];
+      answers = fed_all 1 2 0 2 ∷ got u8 2 2 0 2 (d 4 102) ∷ [];
     }
     -- 7
-    ∷ whole (2 ∷ 0 ∷ []) C [] 0 0 0 0 0 []
+    ∷ whole (2 ∷ 0 ∷ []) C [] 0 0 0 0 []
     ∷ opening (0 ∷ 3 ∷ []) C 1000 (no 3 ∷ [])
     -- 8
-    ∷ whole (2 ∷ 1 ∷ 2 ∷ []) (replicate 27 1) (d 4 1001) 1 2 1 2 1 (d 4 1001)
-    ∷ whole (2 ∷ 1 ∷ 2 ∷ []) (d 27 10000010101010000010000) (d 4 1001) 2 2 0 2 0 (d 4 1002)
+    ∷ whole (2 ∷ 1 ∷ 2 ∷ []) (replicate 27 1) (d 4 1001) 1 2 1 2 (d 4 1001)
+    ∷ whole (2 ∷ 1 ∷ 2 ∷ []) (d 27 10000010101010000010000) (d 4 1001) 2 2 0 2 (d 4 1002)
     -- 9
     ∷ opening (3 ∷ 3 ∷ []) C 34 []
     ∷ opening (3 ∷ 3 ∷ []) C 33 (no 5 ∷ [])
@@ -126,17 +126,14 @@ unfoldable pub slips : List Frame
 unfolding whole pair size leading digits_of
 slips =
     -- the neighbour widened at both ends, though one byte is set
-    whole (2 ∷ 2 ∷ []) (d 9 110000011) (d 4 110) 2 2 0 2 0 (d 4 120)
-    ∷ whole (2 ∷ 2 ∷ []) (d 9 110000011) (d 4 1001) 1 2 1 2 1 (d 4 1001)
+    whole (2 ∷ 2 ∷ []) (d 9 110000011) (d 4 110) 2 2 0 2 (d 4 120)
+    ∷ whole (2 ∷ 2 ∷ []) (d 9 110000011) (d 4 1001) 1 2 1 2 (d 4 1001)
     -- offset 0,-1,0: a neighbour by line number, though a coordinate is out of range
-    ∷ whole (2 ∷ 2 ∷ 1 ∷ []) (pair 10) (d 4 110) 2 2 0 2 0 (d 4 120)
+    ∷ whole (2 ∷ 2 ∷ 1 ∷ []) (pair 10) (d 4 110) 2 2 0 2 (d 4 120)
     -- offset -1,0,0: only the line before stitched, though the neighbour is two lines back
-    ∷ whole (2 ∷ 2 ∷ 1 ∷ []) (pair 4) (d 4 1010) 1 2 1 2 1 (d 4 1010)
+    ∷ whole (2 ∷ 2 ∷ 1 ∷ []) (pair 4) (d 4 1010) 1 2 1 2 (d 4 1010)
     -- a neighbour run dropped once it has been met
-    ∷ whole (2 ∷ 4 ∷ []) (d 9 100101001) (d 8 10100111) 1 3 2 5 2 (d 8 10100111)
-    -- a pair of runs that both sides join counted twice; and a cell joined to that of its own column, though the middle byte is 0
-    ∷ whole (2 ∷ 2 ∷ []) (d 9 101111101) (d 4 1111) 1 2 1 4 1 (d 4 1111)
-    ∷ whole (2 ∷ 1 ∷ []) (d 9 101111101) (d 2 11) 2 2 0 2 0 (d 2 12)
+    ∷ whole (2 ∷ 4 ∷ []) (d 9 100101001) (d 8 10100111) 1 3 2 5 (d 8 10100111)
     ∷ []
 
 -- ---- refusals: each cause of an opening before those that come later, at its limit and beside it; then feeds, readings and size
@@ -189,16 +186,16 @@ refusals =
       answers =
           no 7
           ∷ no 8
-          ∷ fed_all 1 1 0 2 0
+          ∷ fed_all 1 1 0 2
           ∷ no_numbers u16 9 (o 5)
           ∷ no_numbers u16 9 (o 7)
           ∷ no_counts 9 (o 2)
           ∷ sized 1 1 0 2 (d 1 2)
           ∷ no 8
-          ∷ fed_all 2 2 1 3 1
+          ∷ fed_all 2 2 1 3
           ∷ no 7
-          ∷ fed_all 2 2 1 3 0
-          ∷ fed_all 3 3 1 4 0
+          ∷ fed_all 2 2 1 3
+          ∷ fed_all 3 3 1 4
           ∷ no 7
           ∷ sized 2 3 1 4 (d 2 31)
           ∷ got u16 2 3 1 4 (d 6 110120)
@@ -206,7 +203,7 @@ refusals =
     }
     ∷ []
 
--- ---- document 02's structure change: each refusal leaves the structure, and an accepted change counts joins and touches anew
+-- ---- document 02's structure change: each refusal leaves the structure, and an accepted change counts joins from the first line
 
 unfoldable pub changes : List Frame
 unfolding C F digits_of
@@ -233,19 +230,19 @@ changes =
           ∷ read u8 (o 9)
           ∷ [];
       answers =
-          fed_all 2 2 0 2 0
+          fed_all 2 2 0 2
           ∷ no 2
           ∷ no 12
           ∷ no 19
           ∷ no 19
           ∷ no 19
           ∷ got u8 2 2 0 2 (d 9 100020000)
-          ∷ fed_all 2 2 1 2 1
+          ∷ fed_all 2 2 1 2
           ∷ got u8 1 2 1 2 (d 9 100010000)
           ∷ sized 1 2 1 2 (d 1 2)
-          ∷ fed_all 3 3 2 3 1
+          ∷ fed_all 3 3 2 3
           ∷ no 19
-          ∷ fed_all 3 3 2 3 2
+          ∷ fed_all 3 3 2 3
           ∷ got u8 1 3 2 3 (d 9 100010001)
           ∷ [];
     }
@@ -255,7 +252,7 @@ changes =
       structure = d 3 0;
       memory = 17;
       calls = widen (d 3 111) ∷ widen (d 3 10) ∷ widen (d 3 0) ∷ feed 1 (u8s (d 3 111)) ∷ widen (d 3 111) ∷ widen (d 3 10) ∷ [];
-      answers = no 19 ∷ fed_all 0 0 0 0 0 ∷ no 19 ∷ fed_all 1 3 0 3 0 ∷ no 19 ∷ fed_all 1 3 0 3 0 ∷ [];
+      answers = no 19 ∷ fed_all 0 0 0 0 ∷ no 19 ∷ fed_all 1 3 0 3 ∷ no 19 ∷ fed_all 1 3 0 3 ∷ [];
     }
     -- width 0
     ∷ record {
@@ -263,7 +260,7 @@ changes =
       structure = C;
       memory = 3;
       calls = feed 2 (u8s []) ∷ widen F ∷ read u8 [] ∷ [];
-      answers = fed_all 2 0 0 0 0 ∷ fed_all 2 0 0 0 0 ∷ got u8 0 0 0 0 [] ∷ [];
+      answers = fed_all 2 0 0 0 ∷ fed_all 2 0 0 0 ∷ got u8 0 0 0 0 [] ∷ [];
     }
     ∷ []
 

@@ -5,7 +5,6 @@ use Rattle.frame.specs.declared.Figures.{Figures}
 use Rattle.frame.specs.Shape.{size, width, lines}
 use Rattle.frame.specs.ChainRule.{group_count, labels, sizes_of}
 use Rattle.frame.specs.Runs.{runs, nonzero_cells}
-use Rattle.frame.specs.Touches.{touch_count}
 use Rattle.frame.specs.Kinds.{Cells, flags, Number, holds, Value, write}
 use Rattle.frame.specs.Causes.{open_cause, feed_cause, read_cause, sizes_cause, widen_cause}
 
@@ -28,9 +27,8 @@ abbrev pub zero_figures : Figures
 zero_figures = record { runs = 0; joins = 0; cells = 0 }
 
 pub data Answer : Type 0 where
-  -- a feed or a structure change: lines fed and the figures, so far; and the touches of the lines that a feed brings, or of all lines that
-  -- a structure change unites again
-  fed : ℕ → Figures → ℕ → Answer
+  -- a feed or a structure change: lines fed and the figures, so far
+  fed : ℕ → Figures → Answer
   -- a reading or a size call: n and the figures
   counted : ℕ → Figures → Answer
   refused : ℕ → Answer
@@ -88,10 +86,6 @@ module _ (shape : List ℕ) where
         cells = nonzero_cells p.cells;
       }
 
-  -- the touches of n lines, from line a on
-  abbrev pub line_touches : State → ℕ → ℕ → ℕ
-  line_touches p a n = touch_count shape p.structure p.cells a n
-
   -- each call's cause: 6 never comes
   unfoldable pub cause : State → Call → ℕ
   cause p (feed k cells) = feed_cause true (lines shape - p.fed) k (width shape) (length (flags cells))
@@ -101,14 +95,10 @@ module _ (shape : List ℕ) where
 
   -- what is answered, and written, where there is no cause
   unfoldable pub answer : State → Call → Answer
-  answer p (feed k cells) =
-      let q = feeds p k (flags cells) in
-      fed (p.fed + k) (figures q) (line_touches q p.fed k)
+  answer p (feed k cells) = fed (p.fed + k) (figures (feeds p k (flags cells)))
   answer p (read kind out) = counted (groups_of p) (figures p)
   answer p (sizes out) = counted (groups_of p) (figures p)
-  answer p (widen structure) =
-      let q = widens p structure in
-      fed p.fed (figures q) (line_touches q 0 p.fed)
+  answer p (widen structure) = fed p.fed (figures (widens p structure))
 
   unfoldable pub written : State → Call → Written
   written p (feed k cells) = nothing
@@ -147,23 +137,3 @@ session shape structure memory calls =
       | zero ↦ plain shape (opened structure) calls
       | suc c ↦ record { said = refused (suc c); written = nothing } ∷ []
     ]
-
--- ---- reports
-
--- the touches reported since the last accepted structure change, its own report included: t before a call, and so many after its answer. An
--- accepted feed adds its report, with an accepted structure change the sum starts again, and no other answer has a report
-unfoldable pub reported_by : ℕ → Call → Answer → ℕ
-reported_by t (feed k cells) (fed l f new) = t + new
-reported_by t (feed k cells) (counted n f) = t
-reported_by t (feed k cells) (refused c) = t
-reported_by t (widen structure) (fed l f all) = all
-reported_by t (widen structure) (counted n f) = t
-reported_by t (widen structure) (refused c) = t
-reported_by t (read kind out) a = t
-reported_by t (sizes out) a = t
-
--- and after a list of calls that were answered so
-unfoldable pub reported : ℕ → List Call → List Answered → ℕ
-reported t [] az = t
-reported t (c ∷ cs) [] = t
-reported t (c ∷ cs) (a ∷ az) = reported (reported_by t c a.said) cs az

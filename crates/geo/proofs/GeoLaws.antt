@@ -16,7 +16,6 @@ use Rattle.frame.specs.Shape.{size, width, leading, lines}
 use Rattle.frame.specs.Structure.{on, left_code}
 use Rattle.frame.specs.Memory.{stride, most_runs, per_line, words_needed}
 use Rattle.frame.specs.Causes.{bad_rank, has_zero, too_large}
-use Rattle.frame.proofs.CauseLaws.{within_limits}
 use Rattle.frame.proofs.ShapeLaws.{size_lines_lem}
 use Rattle.frame.proofs.LineLaws.{most_runs_le}
 use Rattle.geo.specs.declared.Geo.{Geo}
@@ -26,6 +25,13 @@ use Rattle.geo.proofs.DimsLaws.{rank_limits, three, three_size, zero_ones}
 use Rattle.geo.proofs.LeftLaws.{left_is}
 
 -- ---- limits
+
+pub within_limits : (shape : List ℕ) → too_large shape ≡ false
+    → (width shape < 2147483647) × (lines shape < 4294967293) × (size shape < 4294967293)
+unfolding too_large
+within_limits shape h =
+    let f = or₃_false (leb 2147483647 (width shape)) (leb 4294967293 (lines shape)) (leb 4294967293 (size shape)) h in
+    (leb-false 2147483647 (width shape) f.0, leb-false 4294967293 (lines shape) f.1, leb-false 4294967293 (size shape) f.2)
 
 -- a number may be counted up to the limit that it is held to
 limited_test : (M x y : ℕ) → y ≡ min x M → leb M y ≡ leb M x

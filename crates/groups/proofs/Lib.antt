@@ -10,4 +10,3 @@ pub mod VisitLaws
 pub mod NumberLaws
 pub mod QuotientLaws
 pub mod SumLaws
-pub mod PairLaws

@@ -27,8 +27,8 @@ use Rattle.label.specs.Record.{shape_of, structure_of, lines_of}
 use Rattle.label.specs.Sound.{Sound, sound}
 use Rattle.label.specs.Held.{root_count, numbers_held, sizes_held}
 use Rattle.label.specs.Opening.{open_record, open_words, blank, OpenPromise}
-use Rattle.label.specs.Feeding.{feed_record, feed_cause_of, FeedWords, FeedPromise, feed_touches}
-use Rattle.label.specs.Widening.{widen_cause_of, widen_record, WidenWords, WidenPromise, widen_touches}
+use Rattle.label.specs.Feeding.{feed_record, feed_cause_of, FeedWords, FeedPromise}
+use Rattle.label.specs.Widening.{widen_cause_of, widen_record, WidenWords, WidenPromise}
 use Rattle.label.specs.Reading.{with_names, counted_of, read_cause_of, ReadPromise, sizes_cause_of, SizesPromise}
 use Rattle.label.specs.Steps.{FeedAccepted, FeedDone, WidenAccepted, ReadAccepted}
 use Rattle.label.proofs.SoundLaws.{sound_right, right_sound, n_roots}
@@ -103,25 +103,22 @@ module _ (s : Session) (ws : List ℕ) (k : ℕ) (cells : List Bool) where
   accepted_session G a s' ws' P = P.session ∙ kept_new s (feed_record s ws k cells) (feed_cause_of s ws k cells) (accepted_cause G)
 
   pub accepted_promise : FeedAccepted s ws k cells → (ws' : List ℕ) → FeedWords s ws k cells ws'
-      → FeedPromise s ws k cells (fed (s.fed + k) (feed_record s ws k cells).figures (length (feed_touches s ws k cells)))
-      (feed_record s ws k cells) ws'
+      → FeedPromise s ws k cells (fed (s.fed + k) (feed_record s ws k cells).figures) (feed_record s ws k cells) ws'
   accepted_promise G ws' W = record {
-    said = sym (unless_none (feed_cause_of s ws k cells) _ (accepted_cause G));
+    said = sym (unless_none (feed_cause_of s ws k cells) (fed (s.fed + k) (feed_record s ws k cells).figures) (accepted_cause G));
     session = sym (kept_new s (feed_record s ws k cells) (feed_cause_of s ws k cells) (accepted_cause G));
     refusal = λ h. absurd (omega (arith, accepted_cause G));
     accepted = λ e. W;
   }
 
-  -- it answers the figures of the record that it hands back, and the new lines' touches
+  -- it answers the figures of the record that it hands back
   pub done_promise : FeedAccepted s ws k cells → (s' : Session) (ws' : List ℕ) → FeedDone s ws k cells s' ws'
-      → (a : Answer) → a ≡ fed s'.fed s'.figures (length (feed_touches s ws k cells)) → (s'' : Session) → s'' ≡ s'
-      → FeedPromise s ws k cells a s'' ws'
+      → (a : Answer) → a ≡ fed s'.fed s'.figures → (s'' : Session) → s'' ≡ s' → FeedPromise s ws k cells a s'' ws'
   unfolding feed_record
   done_promise G s' ws' D a said s'' same =
       subst (λ (x : Answer). FeedPromise s ws k cells x s'' ws')
-      (sym (said ∙ ap (λ (x : Session). fed x.fed x.figures (length (feed_touches s ws k cells))) D.session))
-      (subst (λ (x : Session). FeedPromise s ws k cells
-      (fed (s.fed + k) (feed_record s ws k cells).figures (length (feed_touches s ws k cells))) x ws')
+      (sym (said ∙ ap (λ (x : Session). fed x.fed x.figures) D.session))
+      (subst (λ (x : Session). FeedPromise s ws k cells (fed (s.fed + k) (feed_record s ws k cells).figures) x ws')
       (sym (same ∙ D.session))
       (accepted_promise G ws' D.words))
 
@@ -139,15 +136,14 @@ module _ (s : Session) (ws structure : List ℕ) where
       let G = cause_widens e in
       rw G.bytes (bytes_few (length (shape_of s)) (rank_right (shape_of s) G.is_sound.shape.ranked).1)
 
-  -- it answers the figures of the record that it hands back, and the touches of all stored lines
+  -- it answers the figures of the record that it hands back
   pub widen_promise : widen_cause_of s ws structure ≡ 0 → (ws' : List ℕ) → WidenWords s ws structure ws'
-      → (s' : Session) → s' ≡ widen_record s ws structure
-      → (a : Answer) → a ≡ fed s'.fed s'.figures (length (widen_touches s ws structure))
+      → (s' : Session) → s' ≡ widen_record s ws structure → (a : Answer) → a ≡ fed s'.fed s'.figures
       → WidenPromise s ws structure a s' ws'
   unfolding widen_record
   widen_promise e ws' W s' is a said = record {
-    said = said ∙ ap (λ (x : Session). fed x.fed x.figures (length (widen_touches s ws structure))) is
-        ∙ sym (unless_none (widen_cause_of s ws structure) _ e);
+    said = said ∙ ap (λ (x : Session). fed x.fed x.figures) is
+        ∙ sym (unless_none (widen_cause_of s ws structure) (fed s.fed (widen_record s ws structure).figures) e);
     session = is ∙ sym (kept_new s (widen_record s ws structure) (widen_cause_of s ws structure) e);
     refusal = λ h. absurd (omega (arith, e));
     accepted = λ z. W;

@@ -31,9 +31,9 @@ numbers_right = refl
 openings_right : map open_number (O.Accepted ∷ O.Refused C.Memory ∷ []) ≡ 0 ∷ 5 ∷ []
 openings_right = refl
 
--- a feed's lines fed, figures and touches; a reading's n and figures
-cases_right : feed_answer (F.Accepted 3 (f 5 4 7) 2) ∷ feed_answer (F.Refused C.Lines) ∷ read_answer (R.Accepted 1 (f 5 4 7)) ∷ read_answer
-    (R.Refused C.Kind) ∷ [] ≡ fed 3 (f 5 4 7) 2 ∷ refused 7 ∷ counted 1 (f 5 4 7) ∷ refused 10 ∷ []
+-- a feed's lines fed and figures; a reading's n and figures
+cases_right : feed_answer (F.Accepted 3 (f 5 4 7)) ∷ feed_answer (F.Refused C.Lines) ∷ read_answer (R.Accepted 1 (f 5 4 7)) ∷ read_answer
+    (R.Refused C.Kind) ∷ [] ≡ fed 3 (f 5 4 7) ∷ refused 7 ∷ counted 1 (f 5 4 7) ∷ refused 10 ∷ []
 cases_right = refl
 
 -- ---- document 01's frame 1, fed line by line
@@ -53,7 +53,7 @@ opens_right : begun
 unfolding begun computed
 opens_right = refl
 
-answers_right : one.said ∷ two.said ∷ three.said ∷ [] ≡ fed 1 (f 2 0 2) 0 ∷ fed 2 (f 4 2 4) 2 ∷ fed 3 (f 5 4 7) 2 ∷ []
+answers_right : one.said ∷ two.said ∷ three.said ∷ [] ≡ fed 1 (f 2 0 2) ∷ fed 2 (f 4 2 4) ∷ fed 3 (f 5 4 7) ∷ []
 unfolding begun one two three computed
 answers_right = refl
 
@@ -65,7 +65,7 @@ words_right = refl
 
 -- a structure change: two runs that touch at a corner become one group, and the record has the new structure
 widens_right : do_widen bud.session bud.words ones ≡ record {
-  said = fed 2 (f 2 1 2) 1;
+  said = fed 2 (f 2 1 2);
   session = record {
     rank = 2;
     shape = 3 ∷ 3 ∷ 0 ∷ 0 ∷ [];
@@ -82,7 +82,7 @@ widens_right = refl
 drops_right : map {B = Answer × List ℕ} (λ (d : FeedResult). (d.said, d.words))
     (do_widen (held 2 4 3 4) together cross ∷ do_widen two.session (sized 3 1) cross ∷ [])
     ≡ replicate 2 (
-      fed 2 (f 4 2 4) 2,
+      fed 2 (f 4 2 4),
       0 ∷ 2 ∷ 4 ∷ 7 ∷ row 0 1 0 7 2 ++ row 2 3 1 7 2 ++ row 0 1 0 7 0 ++ row 2 3 1 7 0 ++ replicate 10 7,
     )
 unfolding begun one two computed
@@ -286,7 +286,7 @@ others_sized : map (λ (cells : List Bool). let d = do_feed two.session (sized 3
 unfolding begun one two computed
 others_sized = refl
 
-other_right : (other.said ∷ other_read.said ∷ [] ≡ fed 3 (f 6 5 6) 2 ∷ counted 1 (f 6 5 6) ∷ [])
+other_right : (other.said ∷ other_read.said ∷ [] ≡ fed 3 (f 6 5 6) ∷ counted 1 (f 6 5 6) ∷ [])
     × (other_read.out ≡ 1 ∷ 0 ∷ 1 ∷ 1 ∷ 0 ∷ 1 ∷ 1 ∷ 0 ∷ 1 ∷ [])
 unfolding other other_read begun one two computed
 other_right = (refl, refl)
@@ -322,23 +322,22 @@ Shown = Answer × List ℕ × List ℕ
 show : FeedResult → Shown
 show d = (d.said, d.words, (do_read u32 d.session d.words (replicate 8 5)).out)
 
--- one group, two groups; and the touches of the lines that the last feed brings
-abbrev by_full : ℕ → Shown
-by_full t = (
-  fed 4 (f 3 2 4) t,
+-- one group, two groups
+abbrev by_full : Shown
+by_full = (
+  fed 4 (f 3 2 4),
   0 ∷ 1 ∷ 2 ∷ 3 ∷ 3 ∷ row 0 1 0 7 4 ++ row 1 2 0 7 0 ++ row 0 2 0 7 0 ++ replicate 5 7,
   1 ∷ 0 ∷ 0 ∷ 1 ∷ 1 ∷ 1 ∷ 0 ∷ 0 ∷ [],
 )
 
-abbrev by_faces : ℕ → Shown
-by_faces t = (
-  fed 4 (f 3 1 4) t,
+abbrev by_faces : Shown
+by_faces = (
+  fed 4 (f 3 1 4),
   0 ∷ 1 ∷ 2 ∷ 3 ∷ 3 ∷ row 0 1 0 7 3 ++ row 1 2 1 7 1 ++ row 0 2 0 7 0 ++ replicate 5 7,
   1 ∷ 0 ∷ 0 ∷ 2 ∷ 1 ∷ 1 ∷ 0 ∷ 0 ∷ [],
 )
 
-blocks_right : map show (in_blocks full ∷ at_once full ∷ in_blocks faces ∷ at_once faces ∷ [])
-    ≡ by_full 0 ∷ by_full 3 ∷ by_faces 0 ∷ by_faces 1 ∷ []
+blocks_right : map show (in_blocks full ∷ at_once full ∷ in_blocks faces ∷ at_once faces ∷ []) ≡ by_full ∷ by_full ∷ by_faces ∷ by_faces ∷ []
 unfolding in_blocks at_once show computed
 blocks_right = refl
 

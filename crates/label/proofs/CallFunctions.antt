@@ -17,8 +17,8 @@ use Rattle.label.specs.declared.Session.{Session}
 use Rattle.label.specs.Record.{lines_of}
 use Rattle.label.specs.Held.{numbers_held, sizes_held}
 use Rattle.label.specs.Opening.{open_record, open_words, blank}
-use Rattle.label.specs.Feeding.{runs_after, feed_edges, size_after, feed_record, with_runs, feed_cause_of, feed_touches}
-use Rattle.label.specs.Widening.{widen_cause_of, widen_edges, widen_size, widen_record, widen_touches}
+use Rattle.label.specs.Feeding.{runs_after, feed_edges, size_after, feed_record, with_runs, feed_cause_of}
+use Rattle.label.specs.Widening.{widen_cause_of, widen_edges, widen_size, widen_record}
 use Rattle.label.specs.Reading.{with_names, counted_of, read_cause_of, sizes_cause_of}
 use Rattle.label.specs.WholeFrame.{all_fed, early_cause_of, frame_cause_of}
 
@@ -65,7 +65,7 @@ unfoldable pub do_feed : Session → List ℕ → ℕ → List Bool → FeedResu
 do_feed s ws k cells =
     let cause = feed_cause_of s ws k cells in
     record {
-      said = unless cause (fed (s.fed + k) (feed_record s ws k cells).figures (length (feed_touches s ws k cells)));
+      said = unless cause (fed (s.fed + k) (feed_record s ws k cells).figures);
       session = kept cause s (feed_record s ws k cells);
       words = kept cause ws (feed_words s ws k cells);
     }
@@ -76,7 +76,7 @@ unfoldable pub do_widen : Session → List ℕ → List ℕ → FeedResult
 do_widen s ws structure =
     let cause = widen_cause_of s ws structure in
     record {
-      said = unless cause (fed s.fed (widen_record s ws structure).figures (length (widen_touches s ws structure)));
+      said = unless cause (fed s.fed (widen_record s ws structure).figures);
       session = kept cause s (widen_record s ws structure);
       words = kept cause ws (regrouped (lines_of s) s.figures.runs (widen_edges s ws structure) (widen_size s ws structure) ws);
     }

@@ -16,7 +16,7 @@ use Rattle.groups.proofs.SumLaws.{sum_values}
 use Rattle.frame.specs.Shape.{size, width, leading}
 use Rattle.frame.specs.Structure.{left_on}
 use Rattle.frame.specs.Runs.{runs, nonzero_cells, begins_run, Run, none, run_length, frame_runs, all_runs, runs_before, frame_run}
-use Rattle.frame.specs.Touches.{touches, touch_count}
+use Rattle.frame.specs.Touches.{touches}
 use Rattle.frame.specs.Memory.{stride, per_line, words_needed}
 use Rattle.frame.specs.declared.Figures.{Figures}
 use Rattle.frame.specs.Sums.{plus_figures, FiguresFit}
@@ -28,19 +28,17 @@ use Rattle.frame.proofs.FrameRunLaws.{start_le, run_first, runs_all}
 use Rattle.frame.proofs.CellLaws.{cells_most}
 use Rattle.frame.proofs.PlainLaws.{figures_same, unless_none}
 use Rattle.frame.proofs.TouchLaws.{touches_same, touches_bytes}
-use Rattle.frame.proofs.TouchBounds.{touches_countable}
 use Rattle.forest.specs.Forest.{root_of, own, non_roots, grouping, Sums, brought}
 use Rattle.forest.proofs.ForestLaws.{grouping_joins}
 use Rattle.forest.proofs.SizeLaws.{sums_same, sums_values}
 use Rattle.forest.proofs.ResetLaws.{grouping_same}
-use Rattle.sweep.specs.Sweeps.{InOrder, CountFits}
+use Rattle.sweep.specs.Sweeps.{InOrder}
 use Rattle.geo.specs.Geometry.{leading_of, ThreeDims}
 use Rattle.geo.specs.declared.Geo.{Geo}
 use Rattle.geo.specs.Geometry.{GeoOf}
 use Rattle.runs.specs.declared.Counts.{Counts}
 use Rattle.block.specs.Blocks.{lines_runs, lines_cells, BlockRoom, Block, brought_in, BlockReady, touches_from, BlockUnited}
 use Rattle.block.specs.Blocks.{RoomFor, Extracts}
-use Rattle.block.specs.declared.Unions.{Unions}
 use Rattle.causes.specs.declared.Checked.{Checked}
 use Rattle.causes.specs.Cases.{check_number}
 use Rattle.causes.proofs.CaseLaws.{passed_none}
@@ -280,6 +278,17 @@ module _ (s : Session) (ws : List ℕ) (k : ℕ) (more : List Bool) (G : FeedAcc
       unfolding shape_of
       lines_is = K.lines_is
 
+      pub block_ready : BlockReady g.leads g.dims L s.structure ws₁ s.fed k
+      block_ready = record {
+        leading = subst (ThreeDims g.leads g.dims) lines_is K.three;
+        bytes = rw (← K.rank_is) long;
+        within = below;
+        room = rw (last_start, B.long) room_all;
+        sorted = sorted;
+        parents = λ r h. rw (parents_stand r) (S.words.parents r (rw (← fed_start) h));
+        small = brings_few;
+      }
+
       -- the touches of the new lines are those of the promise
       touches_are : touches_from g.leads g.dims L s.structure ws₁ s.fed k ≡ feed_touches s ws k more
       touches_are =
@@ -311,32 +320,13 @@ module _ (s : Session) (ws : List ℕ) (k : ℕ) (more : List Bool) (G : FeedAcc
               sym (unfold feed_record shape_of structure_of in
               stores₁.listed r (rw (runs_after_lem s ws cells H k more G.few G.whole) h))
 
-      -- and a count of 64 bits holds them
-      countable : CountFits 0 (touches_from g.leads g.dims L s.structure ws₁ s.fed k)
-      unfolding touch_count
-      countable =
-          let all = touches_countable shape structure (cells ++ more) S.shape.ranked S.shape.limits s.fed k below in
-          omega (arith, ap length touches_are, ap length (touches_after s ws cells H k more G.few G.whole), all)
-
-      pub block_ready : BlockReady g.leads g.dims L s.structure ws₁ s.fed k
-      block_ready = record {
-        leading = subst (ThreeDims g.leads g.dims) lines_is K.three;
-        bytes = rw (← K.rank_is) long;
-        within = below;
-        room = rw (last_start, B.long) room_all;
-        sorted = sorted;
-        parents = λ r h. rw (parents_stand r) (S.words.parents r (rw (← fed_start) h));
-        small = brings_few;
-        countable = countable;
-      }
-
       -- the grouping held before
       held_before : grouping (parent_of L ws₁) (line_start ws₁ s.fed) ≡ grouping (parent_of L ws) s.figures.runs
       held_before =
           ap (grouping (parent_of L ws₁)) fed_start
           ∙ grouping_same (parent_of L ws₁) (parent_of L ws) s.figures.runs (λ r h. parents_stand r)
 
-      module _ (ws₂ : List ℕ) (u : Unions) (U : BlockUnited g.leads g.dims L s.structure ws₁ ws₂ s.fed k u) where
+      module _ (ws₂ : List ℕ) (t : ℕ) (U : BlockUnited g.leads g.dims L s.structure ws₁ ws₂ s.fed k t) where
         edges_are : visit (touches_from g.leads g.dims L s.structure ws₁ s.fed k)
             (grouping (parent_of L ws₁) (line_start ws₁ s.fed))
             ≡ feed_edges s ws k more
@@ -379,10 +369,7 @@ module _ (s : Session) (ws : List ℕ) (k : ℕ) (more : List Bool) (G : FeedAcc
           no_lines = λ z. U.no_lines z ∙ none_written z;
         }
 
-        pub block_touches : u.touches ≡ length (feed_touches s ws k more)
-        block_touches = U.touched ∙ ap length touches_are
-
-        pub block_joins : s.figures.joins + u.joins ≡ joins (feed_edges s ws k more)
+        pub block_joins : s.figures.joins + t ≡ joins (feed_edges s ws k more)
         block_joins =
             let before = ap joins held_before ∙ grouping_joins (parent_of L ws) s.figures.runs S.words.parents
             ∙ sym S.words.join_count in
@@ -423,15 +410,14 @@ module _ {s : Session} {ws : List ℕ} {k : ℕ} {more : List Bool} {r : Checked
   passed_extracted = record { words = ws; cells = more; extracted = extracted s ws k more F is left B }
 
   -- the union's promise is for whatever feed was extracted
-  pub passed_feed : {s₁ : Session} {ws₂ : List ℕ} {n : ℕ}
-      → ((us : List ℕ) (flags : List Bool) → FeedExtracted s us k flags r.geo ws₁ c
-      → FeedDone s us k flags s₁ ws₂ × (n ≡ length (feed_touches s us k flags)))
-      → {s₂ : Session} {a : Answer} → (s₂ ≡ s₁) × (a ≡ unless (check_number r.check) (fed s₁.fed s₁.figures n))
+  pub passed_feed : {s₁ : Session} {ws₂ : List ℕ}
+      → ((us : List ℕ) (flags : List Bool) → FeedExtracted s us k flags r.geo ws₁ c → FeedDone s us k flags s₁ ws₂)
+      → {s₂ : Session} {a : Answer} → (s₂ ≡ s₁) × (a ≡ unless (check_number r.check) (fed s₁.fed s₁.figures))
       → FeedPromise s ws k more a s₂ ws₂
-  passed_feed {s₁} {ws₂} {n} U A =
+  passed_feed {s₁} {ws₂} U A =
       let done = U ws more (extracted s ws k more F is left B) in
-      let said = A.1 ∙ unless_none _ _ (passed_none _ _ is left) ∙ ap (fed s₁.fed s₁.figures) done.1 in
-      done_promise s ws k more (given s ws k more F is left) s₁ ws₂ done.0 _ said _ A.0
+      let said = A.1 ∙ unless_none _ _ (passed_none _ _ is left) in
+      done_promise s ws k more (given s ws k more F is left) s₁ ws₂ done _ said _ A.0
 
 module _ (s : Session) (ws : List ℕ) (k : ℕ) (more : List Bool) (g : Geo) (ws₁ : List ℕ) (c : Counts)
     (X : FeedExtracted s ws k more g ws₁ c) (long : 3 ^ s.rank ≤ length s.structure) where
@@ -460,17 +446,17 @@ module _ (s : Session) (ws : List ℕ) (k : ℕ) (more : List Bool) (g : Geo) (w
         (limits s ws S).2,
       )
 
-  module _ (ws₂ : List ℕ) (u : Unions) (U : BlockUnited g.leads g.dims g.lines s.structure ws₁ ws₂ s.fed k u) where
-    united : BlockUnited g.leads g.dims (lines_of s) s.structure ws₁ ws₂ s.fed k u
+  module _ (ws₂ : List ℕ) (t : ℕ) (U : BlockUnited g.leads g.dims g.lines s.structure ws₁ ws₂ s.fed k t) where
+    united : BlockUnited g.leads g.dims (lines_of s) s.structure ws₁ ws₂ s.fed k t
     united = rw (← geo_lines s ws g K) U
 
     W : FeedWords s ws k more ws₂
-    W = block_words s ws k more X.given ws₁ c X.block g K long ws₂ u united
+    W = block_words s ws k more X.given ws₁ c X.block g K long ws₂ t united
 
-    joins_are : s.figures.joins + u.joins ≡ joins (feed_edges s ws k more)
-    joins_are = block_joins s ws k more X.given ws₁ c X.block g K long ws₂ u united
+    joins_are : s.figures.joins + t ≡ joins (feed_edges s ws k more)
+    joins_are = block_joins s ws k more X.given ws₁ c X.block g K long ws₂ t united
 
-    joins_fit : s.figures.joins + u.joins < 4294967293
+    joins_fit : s.figures.joins + t < 4294967293
     unfolding non_roots
     joins_fit =
         let G = X.given in
@@ -481,14 +467,14 @@ module _ (s : Session) (ws : List ℕ) (k : ℕ) (more : List Bool) (g : Geo) (w
         omega (arith, joins_are, after, count_most (λ r. not (own p r)) (runs_after s more), few s ws k more G)
 
     -- the figures are numbers of 64 bits, as the lines are
-    pub feed_figures_fit : FiguresFit s.figures (record { runs = c.runs; joins = u.joins; cells = c.cells })
+    pub feed_figures_fit : FiguresFit s.figures (record { runs = c.runs; joins = t; cells = c.cells })
     feed_figures_fit = record {
       runs_fit = omega (arith, runs_fit);
       joins_fit = omega (arith, joins_fit);
       cells_fit = omega (arith, cells_fit);
     }
 
-    pub feed_done : {figures : Figures} → figures ≡ plus_figures s.figures (record { runs = c.runs; joins = u.joins; cells = c.cells })
+    pub feed_done : {figures : Figures} → figures ≡ plus_figures s.figures (record { runs = c.runs; joins = t; cells = c.cells })
         → FeedDone s ws k more (with_figures s (s.fed + k) figures) ws₂
     unfolding feed_record
     feed_done {figures} is = record {
@@ -497,6 +483,3 @@ module _ (s : Session) (ws : List ℕ) (k : ℕ) (more : List Bool) (g : Geo) (w
           (ap (λ (n : ℕ). s.figures.cells + n) (extracted_cells s ws k more X.given ws₁ c X.block)));
       words = W;
     }
-
-    pub feed_counts : u.touches ≡ length (feed_touches s ws k more)
-    feed_counts = block_touches s ws k more X.given ws₁ c X.block g K long ws₂ u united

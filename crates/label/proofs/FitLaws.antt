@@ -26,11 +26,12 @@ use Rattle.frame.proofs.ShapeLaws.{size_lines_lem}
 use Rattle.frame.proofs.ChainRuleLaws.{any_found, any_at}
 use Rattle.frame.proofs.LineLaws.{Within}
 use Rattle.frame.proofs.CellLaws.{cells_most}
-use Rattle.frame.proofs.CauseLaws.{read_accepted, sizes_accepted, within_limits}
+use Rattle.frame.proofs.CauseLaws.{read_accepted, sizes_accepted}
 use Rattle.frame.proofs.PlainLaws.{kept_new, kept_old}
 use Rattle.forest.specs.Forest.{root_of, own, number_in, root_sizes}
 use Rattle.forest.proofs.ForestLaws.{root_stays, own_root, roots_others, root_le}
 use Rattle.forest.proofs.SizeLaws.{two_roots}
+use Rattle.geo.proofs.GeoLaws.{within_limits}
 use Rattle.label.specs.declared.Session.{Session}
 use Rattle.label.specs.Record.{shape_of, structure_of, lines_of}
 use Rattle.label.specs.Sound.{Sound, sound}

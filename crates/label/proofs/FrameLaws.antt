@@ -22,7 +22,7 @@ use Rattle.label.specs.declared.Session.{Session}
 use Rattle.label.specs.Record.{shape_of, structure_of, lines_of}
 use Rattle.label.specs.Held.{cells_of}
 use Rattle.label.specs.Opening.{open_record, open_words}
-use Rattle.label.specs.Feeding.{runs_after, feed_record, feed_cause_of, FeedWords, FeedPromise, feed_touches}
+use Rattle.label.specs.Feeding.{runs_after, feed_record, feed_cause_of, FeedWords, FeedPromise}
 use Rattle.label.specs.Reading.{with_names, counted_of, read_cause_of, ReadPromise}
 use Rattle.label.specs.WholeFrame.{Fills, all_fed, early_cause_of, frame_cause_of, FrameWords, FramePromise}
 use Rattle.label.specs.Steps.{FeedAccepted}
@@ -160,11 +160,10 @@ module _ (kind : Number) (shape structure ws : List ℕ) (cells : List Bool) (ou
             ∙ kept_same (read_cause_of kind s₁ ws₁ (length out)) late out _ _ cause_late (λ e. inv_numbers s₁ ws₁ inv_fed kind ∙ labels_late);
         refusal = λ l. absurd (omega arith);
         accepted = λ e. record {
-          answer = fed (lines shape) s₁.figures (length (feed_touches s vs (lines shape) cells));
+          answer = fed (lines shape) s₁.figures;
           session = s₁;
           fed_words = ws₁;
-          fed_all_lem = subst (λ (n : ℕ). FeedPromise s vs (lines shape) cells
-              (fed n s₁.figures (length (feed_touches s vs (lines shape) cells))) s₁ ws₁) (zero-add (lines shape))
+          fed_all_lem = subst (λ (n : ℕ). FeedPromise s vs (lines shape) cells (fed n s₁.figures) s₁ ws₁) (zero-add (lines shape))
               (accepted_promise s vs (lines shape) cells G ws₁ W);
           names = R.words ∙ ap (λ (c : ℕ). kept c ws₁ (with_names s₁ ws₁)) cause_late;
         };

@@ -10,10 +10,9 @@ use lib.ListN.{length}
 use Rattle.groups.specs.Groups.{Edge, rep, visit}
 use Rattle.groups.proofs.RepLaws.{Ends}
 use Rattle.groups.proofs.VisitLaws.{ends_visit, rep_still}
-use Rattle.frame.specs.Touches.{frame_touches, touch_count}
+use Rattle.frame.specs.Touches.{frame_touches}
 use Rattle.frame.specs.Kinds.{Cells, flags, Number, Value}
 use Rattle.frame.specs.Plain.{Call, feed, read, sizes, widen, Answer, fed, counted, nothing, numbers, counts, Answered, written, unless}
-use Rattle.frame.specs.Plain.{line_touches}
 use Rattle.frame.specs.Plain.{kept, State, feeds, widens, groups_of, figures, cause, answer, answered, changed, next}
 use Rattle.frame.specs.Runs.{Run, run_length}
 use Rattle.frame.specs.Words.{parent_of, size_word, stored_run}
@@ -29,7 +28,7 @@ use Rattle.label.specs.Sound.{Sound, sound}
 use Rattle.label.specs.Held.{cells_of, grouping_of}
 use Rattle.label.specs.Feeding.{runs_after, run_after, feed_brings, feed_touches, feed_edges, feed_record, feed_cause_of}
 use Rattle.label.specs.Feeding.{FeedWords, FeedPromise}
-use Rattle.label.specs.Widening.{widen_cause_of, widen_record, WidenWords, WidenPromise, widen_touches}
+use Rattle.label.specs.Widening.{widen_cause_of, widen_record, WidenWords, WidenPromise}
 use Rattle.label.specs.Reading.{with_names, counted_of, read_cause_of, ReadPromise, sizes_cause_of, SizesPromise}
 use Rattle.label.specs.Steps.{FeedAccepted, WidenAccepted}
 use Rattle.label.proofs.SoundLaws.{right_sound}
@@ -40,7 +39,6 @@ use Rattle.label.proofs.FeedLaws.{feed_shape, touches_after, stores_after}
 use Rattle.label.proofs.FeedSizeLaws.{run_old, fed_sums, ran_after, sound_after}
 use Rattle.label.proofs.NameLaws.{parents_stand, sizes_stand, runs_stand, cells_named, sound_named}
 use Rattle.label.proofs.WidenLaws.{reopened, reopened_accepted, reopened_inv, reopened_state, widened_record, widened_words}
-use Rattle.label.proofs.WidenLaws.{touches_held}
 use Rattle.label.proofs.Invariant.{state_of, visited, length_of, Inv, inv_runs, inv_n, inv_figures, inv_numbers, inv_sizes}
 
 -- ---- a feed that is accepted
@@ -125,11 +123,6 @@ module _ (s : Session) (ws : List ℕ) (I : Inv s ws) (k : ℕ) (more : List Boo
   unfolding feed_record shape_of
   fed_figures = inv_figures (feed_record s ws k more) ws' fed_inv ∙ ap (figures (shape_of s)) fed_state
 
-  -- the touches reported are those of the new lines
-  pub fed_touches : length (feed_touches s ws k more) ≡ line_touches (shape_of s) (feeds (state_of s ws) k more) s.fed k
-  unfolding feeds touch_count
-  fed_touches = ap length (touches_after s ws (cells_of s ws) H k more G.few G.whole)
-
 -- ---- a structure change that is accepted: of a sound record, whatever its origin
 
 pub widened_shape : (s : Session) (ws structure : List ℕ) → shape_of (widen_record s ws structure) ≡ shape_of s
@@ -167,12 +160,6 @@ module _ (s : Session) (ws structure : List ℕ) (G : WidenAccepted s ws structu
   widened_figures =
       inv_figures (widen_record s ws structure) ws' widened_inv
       ∙ ap₂ figures (widened_shape s ws structure) widened_state
-
--- the touches reported are those of all lines
-widened_touches : (s : Session) (ws structure : List ℕ) → WidenAccepted s ws structure
-    → length (widen_touches s ws structure) ≡ line_touches (shape_of s) (widens (state_of s ws) structure) 0 s.fed
-unfolding widens touch_count
-widened_touches s ws structure G = ap length (touches_held s ws structure G)
 
 -- ---- the calls
 
@@ -229,8 +216,7 @@ module _ (s : Session) (ws : List ℕ) (I : Inv s ws) where
   feed_said k cells a s' ws' P =
       P.said
       ∙ unless_same (feed_cause_of s ws k (flags cells)) _ _ _ (feed_cause_lem k cells)
-      (λ e. ap₂ (fed (s.fed + k)) (fed_figures s ws I k (flags cells) e ws' (P.accepted e)) (fed_touches s ws I k (flags cells) e ws'
-      (P.accepted e)))
+      (λ e. ap (fed (s.fed + k)) (fed_figures s ws I k (flags cells) e ws' (P.accepted e)))
 
   pub feed_follows : (k : ℕ) (cells : Cells) (a : Answer) (s' : Session) (ws' : List ℕ) → FeedPromise s ws k (flags cells) a s' ws'
       → Follows s ws (feed k cells) (record { said = a; written = nothing }) s' ws'
@@ -256,8 +242,7 @@ module _ (s : Session) (ws : List ℕ) (I : Inv s ws) where
   widen_said structure a s' ws' P =
       P.said
       ∙ unless_same (widen_cause_of s ws structure) _ _ _ (widen_cause_lem structure)
-      (λ e. ap₂ (fed s.fed) (widened_figures s ws structure (cause_widens s ws structure e) ws' (P.accepted e))
-      (widened_touches s ws structure (cause_widens s ws structure e)))
+      (λ e. ap (fed s.fed) (widened_figures s ws structure (cause_widens s ws structure e) ws' (P.accepted e)))
 
   pub widen_follows : (structure : List ℕ) (a : Answer) (s' : Session) (ws' : List ℕ) → WidenPromise s ws structure a s' ws'
       → Follows s ws (widen structure) (record { said = a; written = nothing }) s' ws'

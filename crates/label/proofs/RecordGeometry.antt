@@ -11,11 +11,11 @@ use lib.ListN.{length}
 use Rattle.frame.specs.Shape.{size, width}
 use Rattle.frame.specs.Structure.{left_on}
 use Rattle.frame.specs.Memory.{stride, most_runs, per_line, words_needed}
-use Rattle.frame.proofs.CauseLaws.{within_limits}
 use Rattle.frame.proofs.ShapeLaws.{size_lines_lem}
 use Rattle.geo.specs.declared.Geo.{Geo}
 use Rattle.geo.specs.declared.Shaped.{Shaped}
 use Rattle.geo.specs.Geometry.{GeoOf, ShapeSound, ShapeFound}
+use Rattle.geo.proofs.GeoLaws.{within_limits}
 use Rattle.geo.proofs.ShapeSoundLaws.{array_ready, shape_sound_right, right_shape_sound}
 use Rattle.sound.specs.Stored.{words_sound, PassReady}
 use Rattle.sound.proofs.StoredLaws.{words_right, right_words}

@@ -72,7 +72,7 @@ module _ {shape structure ws : List ℕ} {r : Checked} (F : LentFound shape stru
 
 module _ {s : Session} {ws : List ℕ} {k : ℕ} {cells : List Bool} {r : Checked} (F : RecordFound s (feed_cause_of s ws k cells) r) {t : Bool}
     (is : t ≡ ltb 0 (check_number r.check)) (taken : t ≡ true) where
-  pub failed_feed : {s' : Session} {a : Answer} → (s' ≡ s) × (a ≡ unless (check_number r.check) (fed s.fed s.figures 0))
+  pub failed_feed : {s' : Session} {a : Answer} → (s' ≡ s) × (a ≡ unless (check_number r.check) (fed s.fed s.figures))
       → FeedPromise s ws k cells a s' ws
   failed_feed A =
       let some = failed_some _ _ is taken in
@@ -86,7 +86,7 @@ module _ {s : Session} {ws : List ℕ} {k : ℕ} {cells : List Bool} {r : Checke
 
 module _ {s : Session} {ws structure : List ℕ} {r : Checked} (F : RecordFound s (widen_cause_of s ws structure) r) {t : Bool}
     (is : t ≡ ltb 0 (check_number r.check)) (taken : t ≡ true) where
-  pub failed_widen : {s' : Session} {a : Answer} → (s' ≡ s) × (a ≡ unless (check_number r.check) (fed s.fed s.figures 0))
+  pub failed_widen : {s' : Session} {a : Answer} → (s' ≡ s) × (a ≡ unless (check_number r.check) (fed s.fed s.figures))
       → WidenPromise s ws structure a s' ws
   failed_widen A =
       let some = failed_some _ _ is taken in

@@ -15,7 +15,6 @@ use Rattle.frame.specs.Causes.{open_cause}
 use Rattle.frame.specs.Runs.{runs}
 use Rattle.frame.specs.Kinds.{Cells, flags, Number, Value, write}
 use Rattle.frame.specs.Plain.{feed, read, Answer, fed, counted, nothing, numbers, Answered, written, unless, kept, State, opened, feeds}
-use Rattle.frame.specs.Plain.{line_touches}
 use Rattle.frame.specs.Plain.{groups_of, figures, cause, answer, answered, changed, next, plain}
 use Rattle.frame.specs.Lists.{sum}
 use Rattle.frame.proofs.ShapeLaws.{size_lines_lem}
@@ -92,10 +91,6 @@ module _ (kind : Number) (shape structure ws : List ℕ) (out : List (Value kind
     abbrev whole : State
     whole = all_fed shape structure (flags cells)
 
-    -- the touches of all lines
-    abbrev all : ℕ
-    all = line_touches shape whole 0 (lines shape)
-
     feed_is_accepted : cause shape (opened structure) (feed (lines shape) cells) ≡ 0
     unfolding cause
     feed_is_accepted = accepted_feed (lines shape - 0) (lines shape) (width shape) (length (flags cells)) (omega arith)
@@ -106,14 +101,14 @@ module _ (kind : Number) (shape structure ws : List ℕ) (out : List (Value kind
     feed_next = next_accepted shape (opened structure) (feed (lines shape) cells) feed_is_accepted
 
     feed_said : unless (cause shape (opened structure) (feed (lines shape) cells))
-        (answer shape (opened structure) (feed (lines shape) cells)) ≡ fed (lines shape) (figures shape whole) all
+        (answer shape (opened structure) (feed (lines shape) cells)) ≡ fed (lines shape) (figures shape whole)
     feed_said =
         unless_none (cause shape (opened structure) (feed (lines shape) cells)) (answer shape (opened structure) (feed (lines shape) cells))
         feed_is_accepted
-        ∙ (unfold answer in ap (λ (n : ℕ). fed n (figures shape whole) all) (zero-add (lines shape)))
+        ∙ (unfold answer in ap (λ (n : ℕ). fed n (figures shape whole)) (zero-add (lines shape)))
 
     first : answered shape (opened structure) (feed (lines shape) cells)
-        ≡ record { said = fed (lines shape) (figures shape whole) all; written = nothing }
+        ≡ record { said = fed (lines shape) (figures shape whole); written = nothing }
     unfolding written
     first = ap (λ (x : Answer). record { said = x; written = nothing }) feed_said
 
@@ -129,8 +124,7 @@ module _ (kind : Number) (shape structure ws : List ℕ) (out : List (Value kind
     pub frame_plain : (a : Answer) (ws' : List ℕ) (out' : List (Value kind))
         → FramePromise kind shape structure ws (flags cells) out a ws' out'
         → plain shape (opened structure) (feed (lines shape) cells ∷ read kind out ∷ [])
-        ≡ record { said = fed (lines shape) (figures shape whole) all; written = nothing }
-        ∷ record { said = a; written = numbers kind out' }
+        ≡ record { said = fed (lines shape) (figures shape whole); written = nothing } ∷ record { said = a; written = numbers kind out' }
         ∷ []
     unfolding plain
     frame_plain a ws' out' F =

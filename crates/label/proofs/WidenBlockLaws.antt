@@ -8,17 +8,13 @@ use native.Mathlib.Nat.{zero-add, mul-le-mul_right, not-suc-le-zero}
 use native.Mathlib.Omega.{arith}
 use lib.Dec.{ltb}
 use lib.ListN.{length}
-use Rattle.block.specs.declared.Unions.{Unions}
-use Rattle.sweep.specs.Sweeps.{CountFits}
-use Rattle.label.proofs.WidenLaws.{touches_held}
 use Rattle.groups.specs.Groups.{Edge, rep, sum_over, joins, visit}
 use Rattle.groups.proofs.SumLaws.{sum_values}
 use Rattle.frame.specs.Shape.{width, leading}
 use Rattle.frame.specs.Runs.{run_length}
-use Rattle.frame.specs.Touches.{touches, touch_count}
+use Rattle.frame.specs.Touches.{touches}
 use Rattle.frame.specs.Plain.{Answer, fed, unless}
 use Rattle.frame.specs.Words.{line_start, parent_of, size_word, stored_run}
-use Rattle.frame.proofs.TouchBounds.{touches_countable}
 use Rattle.frame.proofs.ShapeLaws.{size_lines_lem}
 use Rattle.frame.proofs.EntryLaws.{length_entries}
 use Rattle.frame.proofs.CellLaws.{lengths_sum}
@@ -84,20 +80,6 @@ module _ (s : Session) (ws structure : List ℕ) (G : WidenAccepted s ws structu
   unfolding shape_of
   bytes_are = G.bytes ∙ ap (λ (n : ℕ). 3 ^ n) (length_entries s.rank s.shape ∙ K.rank_is)
 
-  touches_are : touches_from g.leads g.dims L structure ws 0 s.fed ≡ widen_touches s ws structure
-  unfolding widen_touches shape_of
-  touches_are = ap (λ (ds : List ℕ). touches ds structure (line_start ws) (stored_run L ws) 0 s.fed) K.leading_is
-
-  -- a count of 64 bits holds them
-  countable : CountFits 0 (touches_from g.leads g.dims L structure ws 0 s.fed)
-  unfolding touch_count
-  countable = omega (
-    arith,
-    ap length (touches_are ∙ touches_held s ws structure G),
-    touches_countable (shape_of s) structure (cells_of s ws) S.shape.ranked S.shape.limits 0 s.fed
-        (omega (arith, S.shape.within)),
-  )
-
   ready : BlockReady g.leads g.dims L structure ws 0 s.fed
   ready = record {
     leading = subst (ThreeDims g.leads g.dims) (geo_lines s ws g K) K.three;
@@ -107,7 +89,6 @@ module _ (s : Session) (ws structure : List ℕ) (G : WidenAccepted s ws structu
     sorted = λ m h. stores_ordered s ws (cells_of s ws) (sound_stores s ws S) m (omega arith);
     parents = λ r h. absurd (not-suc-le-zero (rw S.words.first at h));
     small = brings_few;
-    countable = countable;
   }
 
   pub widen_ready : BlockReady g.leads g.dims g.lines structure ws 0 s.fed
@@ -115,8 +96,8 @@ module _ (s : Session) (ws structure : List ℕ) (G : WidenAccepted s ws structu
 
   -- ---- united
 
-  module _ (ws' : List ℕ) (u : Unions) (B : BlockUnited g.leads g.dims g.lines structure ws ws' 0 s.fed u) where
-    U : BlockUnited g.leads g.dims L structure ws ws' 0 s.fed u
+  module _ (ws' : List ℕ) (t : ℕ) (B : BlockUnited g.leads g.dims g.lines structure ws ws' 0 s.fed t) where
+    U : BlockUnited g.leads g.dims L structure ws ws' 0 s.fed t
     U = rw (← geo_lines s ws g K) B
 
     none_before : grouping (parent_of L ws) (line_start ws 0) ≡ []
@@ -124,8 +105,9 @@ module _ (s : Session) (ws structure : List ℕ) (G : WidenAccepted s ws structu
 
     edges_are : visit (touches_from g.leads g.dims L structure ws 0 s.fed) (grouping (parent_of L ws) (line_start ws 0))
         ≡ widen_edges s ws structure
-    unfolding widen_edges
-    edges_are = ap₂ visit touches_are none_before
+    unfolding widen_edges widen_touches shape_of
+    edges_are =
+        ap₂ visit (ap (λ (ds : List ℕ). touches ds structure (line_start ws) (stored_run L ws) 0 s.fed) K.leading_is) none_before
 
     roots_are : (r : ℕ) → r < s.figures.runs → root_of (parent_of L ws') r ≡ rep (widen_edges s ws structure) r
     roots_are r h = U.grouped r (rw last_start h) ∙ ap (λ (es : List Edge). rep es r) edges_are
@@ -147,10 +129,7 @@ module _ (s : Session) (ws structure : List ℕ) (G : WidenAccepted s ws structu
       sized = sizes_are;
     }
 
-    pub widen_counts : u.touches ≡ length (widen_touches s ws structure)
-    widen_counts = U.touched ∙ ap length touches_are
-
-    pub widen_joins : u.joins ≡ joins (widen_edges s ws structure)
+    pub widen_joins : t ≡ joins (widen_edges s ws structure)
     widen_joins =
         let none : joins (grouping (parent_of L ws) (line_start ws 0)) ≡ 0 = ap joins none_before ∙ (unfold joins in refl) in
         omega (arith, U.counted, none, ap joins edges_are)
@@ -173,16 +152,15 @@ module _ (s : Session) (ws structure : List ℕ) {r : Checked} (F : RecordFound 
   pub passed_bytes : length structure ≤ 81
   passed_bytes = widen_short s ws structure no_cause
 
-  pub passed_widen : {ws' : List ℕ} {u : Unions}
-      → BlockUnited r.geo.leads r.geo.dims r.geo.lines structure ws ws' 0 s.fed u
-      → {s₁ : Session} → s₁ ≡ with_structure s structure u.joins
-      → {s₂ : Session} {a : Answer} → (s₂ ≡ s₁) × (a ≡ unless (check_number r.check) (fed s₁.fed s₁.figures u.touches))
+  pub passed_widen : {ws' : List ℕ} {n : ℕ}
+      → BlockUnited r.geo.leads r.geo.dims r.geo.lines structure ws ws' 0 s.fed n
+      → {s₁ : Session} → s₁ ≡ with_structure s structure n
+      → {s₂ : Session} {a : Answer} → (s₂ ≡ s₁) × (a ≡ unless (check_number r.check) (fed s₁.fed s₁.figures))
       → WidenPromise s ws structure a s₂ ws'
-  passed_widen {ws'} {u} U {s₁} made {s₂} {a} A =
-      let W = widen_words s ws structure given r.geo geometry ws' u U in
+  passed_widen {ws'} {n} U {s₁} made {s₂} {a} A =
+      let W = widen_words s ws structure given r.geo geometry ws' n U in
       let to : s₁ ≡ widen_record s ws structure = unfold widen_record in made
-      ∙ ap (with_structure s structure) (widen_joins s ws structure given r.geo geometry ws' u U) in
-      let said : a ≡ fed s₂.fed s₂.figures (length (widen_touches s ws structure)) = A.1 ∙ unless_none _ _ (passed_none _ _ is left)
-      ∙ ap₂ (λ (x : Session) (n : ℕ). fed x.fed x.figures n) (sym A.0)
-      (widen_counts s ws structure given r.geo geometry ws' u U) in
+      ∙ ap (with_structure s structure) (widen_joins s ws structure given r.geo geometry ws' n U) in
+      let said : a ≡ fed s₂.fed s₂.figures = A.1 ∙ unless_none _ _ (passed_none _ _ is left)
+      ∙ ap (λ (x : Session). fed x.fed x.figures) (sym A.0) in
       widen_promise s ws structure no_cause ws' W s₂ (A.0 ∙ to) a said

@@ -27,22 +27,17 @@ abbrev word : ℕ → List ℕ → ℕ
 word j ws = get_or ws j 0
 
 abbrev joins_said : Answer → ℕ
-joins_said (fed l g t) = g.joins
+joins_said (fed l g) = g.joins
 joins_said (counted n g) = g.joins
 joins_said (refused c) = 0
 
 abbrev cells_said : Answer → ℕ
-cells_said (fed l g t) = g.cells
+cells_said (fed l g) = g.cells
 cells_said (counted n g) = g.cells
 cells_said (refused c) = 0
 
-abbrev touches_said : Answer → ℕ
-touches_said (fed l g t) = t
-touches_said (counted n g) = 0
-touches_said (refused c) = 0
-
 abbrev number_said : Answer → ℕ
-number_said (fed l g t) = 0
+number_said (fed l g) = 0
 number_said (counted n g) = 0
 number_said (refused c) = c
 
@@ -103,9 +98,9 @@ Armless = FeedPromise (record {
   figures = one.session.figures;
 }) one.words 1 line
 
-feeds_lopsided : (l : ℕ) (g : Figures) (t : ℕ) (s : Session) (ws : List ℕ) → Armless (fed l g t) s ws → ⊥
+feeds_lopsided : (l : ℕ) (g : Figures) (s : Session) (ws : List ℕ) → Armless (fed l g) s ws → ⊥
 unfolding begun one computed
-feeds_lopsided l g t s ws P = let z : ◌≡◌ {A = ℕ} 0 6 = ap number_said P.said in omega arith
+feeds_lopsided l g s ws P = let z : ◌≡◌ {A = ℕ} 0 6 = ap number_said P.said in omega arith
 
 twelve_of_a_feed : (s : Session) (ws : List ℕ) → Armless (refused 12) s ws → ⊥
 unfolding begun one computed
@@ -125,16 +120,16 @@ padded_joins : (a : Answer) (ws : List ℕ) → Third a (held 3 5 5 7) ws → �
 unfolding begun one two computed
 padded_joins a ws P = let z : ◌≡◌ {A = ℕ} 5 4 = ap (λ (x : Session). x.figures.joins) P.session in omega arith
 
-told_wrong : (s : Session) (ws : List ℕ) → Third (fed 3 (f 5 5 7) 2) s ws → ⊥
+told_wrong : (s : Session) (ws : List ℕ) → Third (fed 3 (f 5 5 7)) s ws → ⊥
 unfolding begun one two computed
 told_wrong s ws P = let z : ◌≡◌ {A = ℕ} 5 4 = ap joins_said P.said in omega arith
 
 -- the cells of the last run are forgotten; runs are told for cells; the record keeps the total of the feed before
-last_forgotten : (s : Session) (ws : List ℕ) → Third (fed 3 (f 5 4 4) 2) s ws → ⊥
+last_forgotten : (s : Session) (ws : List ℕ) → Third (fed 3 (f 5 4 4)) s ws → ⊥
 unfolding begun one two computed
 last_forgotten s ws P = let z : ◌≡◌ {A = ℕ} 4 7 = ap cells_said P.said in omega arith
 
-runs_for_cells : (s : Session) (ws : List ℕ) → Third (fed 3 (f 5 4 5) 2) s ws → ⊥
+runs_for_cells : (s : Session) (ws : List ℕ) → Third (fed 3 (f 5 4 5)) s ws → ⊥
 unfolding begun one two computed
 runs_for_cells s ws P = let z : ◌≡◌ {A = ℕ} 5 7 = ap cells_said P.said in omega arith
 
@@ -142,20 +137,10 @@ total_kept : (a : Answer) (ws : List ℕ) → Third a (held 3 5 4 4) ws → ⊥
 unfolding begun one two computed
 total_kept a ws P = let z : ◌≡◌ {A = ℕ} 4 7 = ap (λ (x : Session). x.figures.cells) P.session in omega arith
 
--- the touches of the lines before are counted again; the last pair is not counted
-touches_again : (s : Session) (ws : List ℕ) → Third (fed 3 (f 5 4 7) 4) s ws → ⊥
-unfolding begun one two computed
-touches_again s ws P = let z : ◌≡◌ {A = ℕ} 4 2 = ap touches_said P.said in omega arith
-
-pair_lost : (s : Session) (ws : List ℕ) → Third (fed 3 (f 5 4 7) 1) s ws → ⊥
-unfolding begun one two computed
-pair_lost s ws P = let z : ◌≡◌ {A = ℕ} 1 2 = ap touches_said P.said in omega arith
-
 -- a record whose total is not the sum of its run lengths is fed
-feeds_any_total : (l : ℕ) (g : Figures) (t : ℕ) (s : Session) (ws : List ℕ)
-    → FeedPromise (held 2 4 2 5) (sized 2 3) 1 whole (fed l g t) s ws → ⊥
+feeds_any_total : (l : ℕ) (g : Figures) (s : Session) (ws : List ℕ) → FeedPromise (held 2 4 2 5) (sized 2 3) 1 whole (fed l g) s ws → ⊥
 unfolding begun one two computed
-feeds_any_total l g t s ws P = let z : ◌≡◌ {A = ℕ} 0 6 = ap number_said P.said in omega arith
+feeds_any_total l g s ws P = let z : ◌≡◌ {A = ℕ} 0 6 = ap number_said P.said in omega arith
 
 -- 7 with a line still to come
 early_seven : (s : Session) (ws : List ℕ) → Third (refused 7) s ws → ⊥
@@ -209,15 +194,14 @@ unfolding begun one two computed
 changes_other_root a s ws P e = let z : word (size_place 3 1) ws ≡ 1 = (P.accepted refl).sized 1 (omega arith) refl in omega arith
 
 -- it feeds a record whose roots' words do not add up to the total; whose sum is the total in 32 bits alone
-feeds_any_sizes : (l : ℕ) (g : Figures) (t : ℕ) (s : Session) (ws : List ℕ)
-    → FeedPromise two.session (sized 3 2) 1 whole (fed l g t) s ws → ⊥
+feeds_any_sizes : (l : ℕ) (g : Figures) (s : Session) (ws : List ℕ) → FeedPromise two.session (sized 3 2) 1 whole (fed l g) s ws → ⊥
 unfolding begun one two computed
-feeds_any_sizes l g t s ws P = let z : ◌≡◌ {A = ℕ} 0 6 = ap number_said P.said in omega arith
+feeds_any_sizes l g s ws P = let z : ◌≡◌ {A = ℕ} 0 6 = ap number_said P.said in omega arith
 
-feeds_wrapped_sizes : (l : ℕ) (g : Figures) (t : ℕ) (s : Session) (ws : List ℕ)
-    → FeedPromise two.session (sized 2147483650 2147483650) 1 whole (fed l g t) s ws → ⊥
+feeds_wrapped_sizes : (l : ℕ) (g : Figures) (s : Session) (ws : List ℕ)
+    → FeedPromise two.session (sized 2147483650 2147483650) 1 whole (fed l g) s ws → ⊥
 unfolding begun one two computed
-feeds_wrapped_sizes l g t s ws P = let z : ◌≡◌ {A = ℕ} 0 6 = ap number_said P.said in omega arith
+feeds_wrapped_sizes l g s ws P = let z : ◌≡◌ {A = ℕ} 0 6 = ap number_said P.said in omega arith
 
 -- two lines where one is left: refused, it writes a line's start; it stores the lines
 writes_refused : (a : Answer) (s : Session) (ws : List ℕ) → FeedPromise two.session two.words 2 (line ++ line) a s ws → word 3 ws ≡ 6
@@ -230,10 +214,9 @@ unfolding begun one two computed
 stores_refused a ws P = let z : ◌≡◌ {A = ℕ} 4 2 = ap (λ (x : Session). x.fed) P.session in omega arith
 
 -- an unsound record is fed
-feeds_unsound : (l : ℕ) (g : Figures) (t : ℕ) (s : Session) (ws : List ℕ)
-    → FeedPromise two.session (put 0 1) 1 whole (fed l g t) s ws → ⊥
+feeds_unsound : (l : ℕ) (g : Figures) (s : Session) (ws : List ℕ) → FeedPromise two.session (put 0 1) 1 whole (fed l g) s ws → ⊥
 unfolding begun one two computed
-feeds_unsound l g t s ws P = let z : ◌≡◌ {A = ℕ} 0 6 = ap number_said P.said in omega arith
+feeds_unsound l g s ws P = let z : ◌≡◌ {A = ℕ} 0 6 = ap number_said P.said in omega arith
 
 -- structure changes: from the cross to nine ones, of two runs that touch at a corner
 
@@ -254,14 +237,9 @@ keeps_figures : (s : Session) (a : Answer) (ws : List ℕ) → Widening a s ws �
 unfolding begun bud computed
 keeps_figures s a ws P e = let z : s.figures.joins ≡ 1 = ap (λ (x : Session). x.figures.joins) P.session in omega arith
 
-tells_old_joins : (s : Session) (ws : List ℕ) → Widening (fed 2 (f 2 0 2) 1) s ws → ⊥
+tells_old_joins : (s : Session) (ws : List ℕ) → Widening (fed 2 (f 2 0 2)) s ws → ⊥
 unfolding begun bud computed
 tells_old_joins s ws P = let z : ◌≡◌ {A = ℕ} 0 1 = ap joins_said P.said in omega arith
-
--- it reports no touches, as a feed of no lines
-reports_none : (s : Session) (ws : List ℕ) → Widening (fed 2 (f 2 1 2) 0) s ws → ⊥
-unfolding begun bud computed
-reports_none s ws P = let z : ◌≡◌ {A = ℕ} 0 1 = ap touches_said P.said in omega arith
 
 -- the root's fifth word is left; a name is changed
 leaves_size : (a : Answer) (s : Session) (ws : List ℕ) → Widening a s ws → word (size_place 3 0) ws ≡ 1 → ⊥
@@ -273,7 +251,7 @@ unfolding begun bud computed
 renames a s ws P e =
     let z : word (name_place 3 1) ws ≡ 7 = (P.accepted refl).others (name_place 3 1) (λ r h. (omega arith, omega arith)) in omega arith
 
--- of a record of other origin it unites over the grouping held; it adds to the joins, to the touches, to the sizes
+-- of a record of other origin it unites over the grouping held; it adds to the joins; it adds to the sizes
 abbrev Dropping : Answer → Session → List ℕ → Type 0
 Dropping = WidenPromise (held 2 4 3 4) together cross
 
@@ -281,13 +259,9 @@ keeps_groups : (a : Answer) (s : Session) → Dropping a s together → ⊥
 unfolding begun one two computed
 keeps_groups a s P = let z : ◌≡◌ {A = ℕ} 0 1 = (P.accepted refl).grouped 1 (omega arith) in omega arith
 
-adds_joins : (s : Session) (ws : List ℕ) → Dropping (fed 2 (f 4 5 4) 2) s ws → ⊥
+adds_joins : (s : Session) (ws : List ℕ) → Dropping (fed 2 (f 4 5 4)) s ws → ⊥
 unfolding begun one two computed
 adds_joins s ws P = let z : ◌≡◌ {A = ℕ} 5 2 = ap joins_said P.said in omega arith
-
-adds_touches : (s : Session) (ws : List ℕ) → Dropping (fed 2 (f 4 2 4) 4) s ws → ⊥
-unfolding begun one two computed
-adds_touches s ws P = let z : ◌≡◌ {A = ℕ} 4 2 = ap touches_said P.said in omega arith
 
 adds_sizes : (a : Answer) (s : Session) (ws : List ℕ) → Dropping a s ws → word (size_place 3 0) ws ≡ 4 → ⊥
 unfolding begun one two computed
@@ -295,18 +269,18 @@ adds_sizes a s ws P e = let z : word (size_place 3 0) ws ≡ 2 = (P.accepted ref
 
 -- it takes a structure without an arm; one with other bytes to the sides; it answers 19 where the structure is lopsided too; refused, it
 -- has the new structure
-takes_narrower : (l : ℕ) (g : Figures) (t : ℕ) (s : Session) (ws : List ℕ)
-    → WidenPromise bud.session bud.words (set (set cross 1 0) 7 0) (fed l g t) s ws → ⊥
+takes_narrower : (l : ℕ) (g : Figures) (s : Session) (ws : List ℕ)
+    → WidenPromise bud.session bud.words (set (set cross 1 0) 7 0) (fed l g) s ws → ⊥
 unfolding begun bud computed
-takes_narrower l g t s ws P = let z : ◌≡◌ {A = ℕ} 0 19 = ap number_said P.said in omega arith
+takes_narrower l g s ws P = let z : ◌≡◌ {A = ℕ} 0 19 = ap number_said P.said in omega arith
 
 abbrev column : List ℕ
 column = set (set cross 3 0) 5 0
 
-takes_other_left : (l : ℕ) (g : Figures) (t : ℕ) (s : Session) (ws : List ℕ)
-    → WidenPromise (do_open frame column (replicate 49 7)).session (do_open frame column (replicate 49 7)).words ones (fed l g t) s ws → ⊥
+takes_other_left : (l : ℕ) (g : Figures) (s : Session) (ws : List ℕ)
+    → WidenPromise (do_open frame column (replicate 49 7)).session (do_open frame column (replicate 49 7)).words ones (fed l g) s ws → ⊥
 unfolding computed
-takes_other_left l g t s ws P = let z : ◌≡◌ {A = ℕ} 0 19 = ap number_said P.said in omega arith
+takes_other_left l g s ws P = let z : ◌≡◌ {A = ℕ} 0 19 = ap number_said P.said in omega arith
 
 nineteen_first : (s : Session) (ws : List ℕ) → WidenPromise bud.session bud.words (set cross 7 0) (refused 19) s ws → ⊥
 unfolding begun bud computed

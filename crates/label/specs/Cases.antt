@@ -16,7 +16,7 @@ open_number O.Accepted = 0
 open_number (O.Refused c) = cause_number c
 
 abbrev pub feed_answer : FeedAnswer → Answer
-feed_answer (F.Accepted l f t) = fed l f t
+feed_answer (F.Accepted l f) = fed l f
 feed_answer (F.Refused c) = refused (cause_number c)
 
 abbrev pub read_answer : ReadAnswer → Answer

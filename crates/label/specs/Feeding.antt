@@ -89,9 +89,9 @@ module _ (s : Session) (ws : List ℕ) (k : ℕ) (cells : List Bool) where
     -- with k = 0 nothing changes
     pub no_lines : k ≡ 0 → ws' ≡ ws
 
-  -- the answer, with the touches of the lines that the feed brings, and the record and the words afterwards
+  -- the answer, and the record and the words afterwards
   pub record FeedPromise (a : Answer) (s' : Session) (ws' : List ℕ) : Type 0 where
-    pub said : a ≡ unless feed_cause_of (fed (s.fed + k) feed_record.figures (length feed_touches))
+    pub said : a ≡ unless feed_cause_of (fed (s.fed + k) feed_record.figures)
     pub session : s' ≡ kept feed_cause_of s feed_record
     pub refusal : 0 < feed_cause_of → ws' ≡ ws
     pub accepted : feed_cause_of ≡ 0 → FeedWords ws'

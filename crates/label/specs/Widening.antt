@@ -43,9 +43,9 @@ module _ (s : Session) (ws structure : List ℕ) where
     pub grouped : (r : ℕ) → r < s.figures.runs → root_of (parent_of (lines_of s) ws') r ≡ rep widen_edges r
     pub sized : (r : ℕ) → r < s.figures.runs → rep widen_edges r ≡ r → size_word (lines_of s) ws' r ≡ widen_size r
 
-  -- the answer, as a feed's, with the touches of all stored lines, and the record and the words afterwards
+  -- the answer, as a feed's, and the record and the words afterwards
   pub record WidenPromise (a : Answer) (s' : Session) (ws' : List ℕ) : Type 0 where
-    pub said : a ≡ unless widen_cause_of (fed s.fed widen_record.figures (length widen_touches))
+    pub said : a ≡ unless widen_cause_of (fed s.fed widen_record.figures)
     pub session : s' ≡ kept widen_cause_of s widen_record
     pub refusal : 0 < widen_cause_of → ws' ≡ ws
     pub accepted : widen_cause_of ≡ 0 → WidenWords ws'

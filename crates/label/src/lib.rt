@@ -19,7 +19,7 @@ ghost use Rattle.causes.specs.Cases.{check_number};
 ghost use Rattle.label.specs.Cases.{open_number, feed_answer, read_answer};
 ghost use Rattle.label.specs.Record.{with_structure};
 ghost use Rattle.label.specs.Opening.{OpenPromise, open_record, blank};
-ghost use Rattle.label.specs.Feeding.{feed_touches, feed_cause_of, FeedPromise};
+ghost use Rattle.label.specs.Feeding.{feed_cause_of, FeedPromise};
 ghost use Rattle.label.specs.Widening.{widen_cause_of, WidenPromise};
 ghost use Rattle.label.specs.Reading.{read_cause_of, sizes_cause_of, ReadPromise, SizesPromise};
 ghost use Rattle.label.specs.Steps.{sound_cause_of, RecordFound, FeedExtracted, FeedDone, SomeExtracted};
@@ -40,14 +40,12 @@ pub enum OpenAnswer {
     Refused(causes::Cause),
 }
 
-// A feed's and a structure change's: lines fed and the figures, so far; and the touches of the lines that a feed brought, or a change
-// united again.
+// A feed's and a structure change's: lines fed and the figures, so far.
 #[derive(Drop)]
 pub enum FeedAnswer {
     Accepted {
         lines: usize,
         figures: frame::Figures,
-        touches: usize,
     },
     Refused(causes::Cause),
 }
@@ -186,12 +184,11 @@ impl Session {
         let found = self.feed_check(words, k, cells.len());
         let check = found.check;
         if check.failed() {
-            return answer_feed(self, check, 0);
+            return answer_feed(self, check);
         }
         let g = found.geo;
         let new = block::extract_block_u8(cells, g, words, self.fed, self.figures.runs, k);
-        let done = self.union_lines(words, g, k, new);
-        answer_feed(done.session, check, done.touches)
+        answer_feed(self.union_lines(words, g, k, new), check)
     }
 
     pub fn feed_u16(self, words: &mut [u32], k: usize, cells: &[u16]) -> Fed
@@ -201,12 +198,11 @@ impl Session {
         let found = self.feed_check(words, k, cells.len());
         let check = found.check;
         if check.failed() {
-            return answer_feed(self, check, 0);
+            return answer_feed(self, check);
         }
         let g = found.geo;
         let new = block::extract_block_u16(cells, g, words, self.fed, self.figures.runs, k);
-        let done = self.union_lines(words, g, k, new);
-        answer_feed(done.session, check, done.touches)
+        answer_feed(self.union_lines(words, g, k, new), check)
     }
 
     pub fn feed_i16(self, words: &mut [u32], k: usize, cells: &[i16]) -> Fed
@@ -216,12 +212,11 @@ impl Session {
         let found = self.feed_check(words, k, cells.len());
         let check = found.check;
         if check.failed() {
-            return answer_feed(self, check, 0);
+            return answer_feed(self, check);
         }
         let g = found.geo;
         let new = block::extract_block_i16(cells, g, words, self.fed, self.figures.runs, k);
-        let done = self.union_lines(words, g, k, new);
-        answer_feed(done.session, check, done.touches)
+        answer_feed(self.union_lines(words, g, k, new), check)
     }
 
     pub fn feed_f32(self, words: &mut [u32], k: usize, cells: &[f32]) -> Fed
@@ -231,49 +226,38 @@ impl Session {
         let found = self.feed_check(words, k, cells.len());
         let check = found.check;
         if check.failed() {
-            return answer_feed(self, check, 0);
+            return answer_feed(self, check);
         }
         let g = found.geo;
         let new = block::extract_block_f32(cells, g, words, self.fed, self.figures.runs, k);
-        let done = self.union_lines(words, g, k, new);
-        answer_feed(done.session, check, done.touches)
+        answer_feed(self.union_lines(words, g, k, new), check)
     }
-}
-
-// The record after a feed, and the touches of its lines.
-#[derive(Drop)]
-struct Extended {
-    session: Session,
-    touches: usize,
 }
 
 impl Session {
-    // Unites the extracted lines with their neighbours. `new` counts their runs and nonzero cells.
-    fn union_lines(self, words: &mut [u32], g: geo::Geo, k: usize, new: runs::Counts) -> Extended
+    // Unites the extracted lines with their neighbours, and gives the record afterwards. `new` counts their runs and nonzero cells.
+    fn union_lines(self, words: &mut [u32], g: geo::Geo, k: usize, new: runs::Counts) -> Session
         requires { SomeExtracted self g k words.old new }
         ensures { (ws : List ℕ) (cells : List Bool) → FeedExtracted self ws k cells g words.old new →
-            FeedDone self ws k cells result.session words.new × (result.touches ≡ length (feed_touches self ws k cells)) }
+            FeedDone self ws k cells result words.new }
     {
-        let unions = block::union_block(words, g, &self.structure, self.fed, k);
+        let joins = block::union_block(words, g, &self.structure, self.fed, k);
         let figures = self.figures.plus(frame::Figures {
             runs: new.runs,
-            joins: unions.joins,
+            joins,
             cells: new.cells,
         });
-        let mut session = self;
-        session.fed += k;
-        session.figures = figures;
-        Extended {
-            session,
-            touches: unions.touches,
-        }
+        let mut s = self;
+        s.fed += k;
+        s.figures = figures;
+        s
     }
 }
 
-// A feed or a structure change that was accepted answers the record's figures and its own touches, and any other its cause.
-fn answer_feed(session: Session, check: causes::Check, touches: usize) -> Fed
+// A feed or a structure change that was accepted answers the record's figures, and any other its cause.
+fn answer_feed(session: Session, check: causes::Check) -> Fed
     ensures { (result.session ≡ session)
-        × (feed_answer result.answer ≡ unless (check_number check) (fed session.fed session.figures touches)) }
+        × (feed_answer result.answer ≡ unless (check_number check) (fed session.fed session.figures)) }
 {
     let figures = session.figures;
     let answer = match check {
@@ -281,7 +265,6 @@ fn answer_feed(session: Session, check: causes::Check, touches: usize) -> Fed
         causes::Check::Passed => FeedAnswer::Accepted {
             lines: session.fed,
             figures,
-            touches,
         },
     };
     Fed { answer, session }
@@ -312,15 +295,11 @@ impl Session {
         let found = self.widen_check(words, structure);
         let check = found.check;
         if check.failed() {
-            return answer_feed(self, check, 0);
+            return answer_feed(self, check);
         }
         let g = found.geo;
-        let unions = block::union_block(words, g, structure, 0, self.fed);
-        answer_feed(
-            self.with_structure(structure, unions.joins),
-            check,
-            unions.touches,
-        )
+        let joins = block::union_block(words, g, structure, 0, self.fed);
+        answer_feed(self.with_structure(structure, joins), check)
     }
 
     // The record under another structure, with the joins that its lines then have.

@@ -1,11 +1,9 @@
-// Fixed cases: the causes of an opening and of a structure change, and what stands after them; touches that were counted by hand; and u8
-// numbers at their limit.
+// Fixed cases: the causes of an opening and of a structure change, and what stands after them; and u8 numbers at their limit.
 use crate::sessions;
 use flood::{layout, plus, times};
 use label::Session;
 use samples::tally;
 use trial::answers;
-use trial::answers::Done;
 
 // A whole frame with so many words, that should be refused with this cause and leave words and output.
 fn try_whole(shape: &[usize], structure: &[u8], memory: usize, cause: usize) -> bool {
@@ -107,7 +105,7 @@ fn feed_ones(
     session
 }
 
-// Whether a feed of no lines is accepted, or refused as it should be, changes nothing, and reports no touches.
+// Whether a feed of no lines is accepted, or refused as it should be, and changes nothing.
 fn feeds_none(
     session: Session,
     words: &mut [u32; 3841],
@@ -116,7 +114,7 @@ fn feeds_none(
 ) -> bool {
     let done = trial::feed(session, words, 0, &[], 0);
     let stands = answers::same_record(done.session, session) & layout::words_alike(words, laid);
-    stands & ((done.answer.number == 0) == accepted) & (done.answer.touches == 0)
+    stands & ((done.answer.number == 0) == accepted)
 }
 
 // A change of such a session from a structure to another, that should give this cause, or 0; and a feed of no lines then.
@@ -235,59 +233,6 @@ fn try_plane_changes(state: &mut [u64; 48]) {
     try_plane(3, 3, ROW, FULL, 27, 2, state);
 }
 
-// 010111010, 101111101, 101000101 and 111000111.
-const CROSS: usize = 186;
-
-const SIDES: usize = 381;
-
-const LONE_SIDES: usize = 325;
-
-const LONE: usize = 455;
-
-// Whether an accepted call reports so many touches.
-fn reports(done: Done, touches: usize) -> bool {
-    (done.answer.number == 0) & (done.answer.touches == touches)
-}
-
-// Three lines, with a structure change after the second: what the second line, the change and the third line report. The first line and a
-// feed of no lines report 0, and the same change at the end what was reported from the first change on.
-fn try_reports(cells: &[u8], old: usize, new: usize, right: [usize; 3], state: &mut [u64; 48]) {
-    let mut words = [7u32; 3841];
-    let a = structure_of(old);
-    let b = structure_of(new);
-    let to = samples::first(&b, 9);
-    let width = cells.len() / 3;
-    let opened = trial::open(&[3, width], samples::first(&a, 9), &mut words);
-    let line = samples::part_of(cells, 0, width);
-    let one = trial::feed(opened.session, &mut words, 1, line, 0);
-    let line = samples::part_of(cells, width, width);
-    let two = trial::feed(one.session, &mut words, 1, line, 0);
-    let none = trial::feed(two.session, &mut words, 0, &[], 0);
-    let changed = trial::widen(none.session, &mut words, to);
-    let line = samples::part_of(cells, times(2, width), width);
-    let three = trial::feed(changed.session, &mut words, 1, line, 0);
-    let all = trial::widen(three.session, &mut words, to);
-    let before = reports(one, 0) & reports(two, right[0]) & reports(none, 0);
-    let after = reports(changed, right[1]) & reports(three, right[2]);
-    let agreed = before & after & reports(all, plus(right[1], right[2]));
-    tally::count(state, tally::OTHER, 0, agreed);
-}
-
-// 1010101, 0101010 and 1010101; 10101 twice and 01010; and ones. A pair that two bytes join counts once. With the middle byte zero a run of
-// one cell does not touch the one in its own column, and with the left byte zero every cell is a run.
-fn try_all_reports(state: &mut [u64; 48]) {
-    let mut steps = [0u8; 21];
-    samples::make_lone(&mut steps);
-    let apart = [1, 0, 1, 0, 1, 1, 0, 1, 0, 1, 0, 1, 0, 1, 0];
-    let ones = [1; 9];
-    try_reports(&steps, FULL, FULL, [6, 6, 6], state);
-    try_reports(&steps, CROSS, FULL, [0, 6, 6], state);
-    try_reports(&apart, SIDES, FULL, [0, 3, 4], state);
-    try_reports(samples::first(&ones, 6), SIDES, FULL, [1, 1, 1], state);
-    try_reports(samples::first(&ones, 3), SIDES, FULL, [0, 1, 1], state);
-    try_reports(&ones, LONE_SIDES, LONE, [4, 7, 7], state);
-}
-
 // A line of so many cells, every other nonzero, read as u8, which should give this cause, or 0.
 fn try_lone(width: usize, cause: usize, state: &mut [u64; 48]) {
     let mut flags = [0u8; 640];
@@ -309,7 +254,6 @@ pub fn try_all(state: &mut [u64; 48]) {
     try_limits(state);
     try_line_changes(state);
     try_plane_changes(state);
-    try_all_reports(state);
     try_lone(509, 0, state);
     try_lone(511, 10, state);
 }

@@ -1,5 +1,5 @@
-// Sessions at run time, against a plain labelling by flood fill and a plain count of touches: random calls, sizes after each line,
-// structure changes, records of other origin, damaged records and memories, and fixed cases of the causes and of touches.
+// Sessions at run time, against a plain labelling by flood fill: random calls, sizes after each line, structure changes, records of other
+// origin, damaged records and memories, and fixed cases of the causes.
 mod damage;
 mod fixed;
 mod origin;
@@ -60,11 +60,6 @@ fn report(state: &[u64; 48]) {
         state,
         b"structure changes: #\n  accepted: #\n  and with fewer groups then: #\nstructure changes of records of other origin: #\n",
         tally::CHANGES,
-    );
-    tally::report(
-        state,
-        b"touches that feeds report: #\ntouches that structure changes report: #\n",
-        tally::TOUCHES,
     );
     tally::report(
         state,

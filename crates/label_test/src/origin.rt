@@ -1,14 +1,12 @@
 // Records of other origin: a session's, with its total dealt out among the roots' sizes otherwise than by groups, any words at the sizes of
 // other runs, any bytes past its structure's, and in some a root that was made a run of another group. They are accepted. A size call
 // copies the sizes that stand there, a reading numbers the groups that the record holds, and a feed adds sizes and lengths by document 02's
-// rule; its touches are those of its lines, whatever the groups. After a structure change groups and sizes are the flood fill's again,
-// whatever the record held.
+// rule. After a structure change groups and sizes are the flood fill's again, whatever the record held.
 use crate::sessions;
 use crate::sessions::Turn;
 use flood::{Extent, layout, less, plus, times};
 use label::Session;
 use samples::{below, next, tally};
-use trial::answers;
 
 // A run that was a root and the run that became its parent; none where the two are one.
 #[derive(Drop)]
@@ -111,16 +109,15 @@ fn feed_linked(
     layout::lay(laid, e, flags, fed);
     layout::add_sizes(laid, &marks, e, old, count.runs, &mut sizes);
     let done = trial::feed(session, words, k, cells, code);
-    let touches = flood::touches::count(e, structure, flags, session.fed, k);
-    let right = answers::fed(fed, count, touches);
-    let agreed = sessions::check_accepted(session, done, right, &marks, &sizes, words, laid, e);
+    let agreed = sessions::check_accepted(
+        session, done, fed, count, &marks, &sizes, words, laid, e,
+    );
     let session = done.session;
-    let answer = done.answer;
+    let number = done.answer.number;
     Turn {
         session,
         code,
-        number: answer.number,
-        touches: answer.touches,
+        number,
         agreed,
     }
 }

@@ -1,8 +1,7 @@
 // Sessions fed in random pieces, with readings, size calls and structure changes between, and sessions fed line by line with a size call
-// after each, against the flood fill of the lines fed under the structure that the session then has; the touches of a feed and of a
-// structure change against a count cell by cell. After every call the words must be, but for parents and for the sizes of runs that are no
-// roots, those laid out by the documents' rules, each root's size the count of its group's cells; after a refusal words, record and output
-// are as they were.
+// after each, against the flood fill of the lines fed under the structure that the session then has. After every call the words must be,
+// but for parents and for the sizes of runs that are no roots, those laid out by the documents' rules, each root's size the count of its
+// group's cells; after a refusal words, record and output are as they were.
 use flood::{Extent, layout, less, plus, times};
 use label::Session;
 use samples::{below, next, tally};
@@ -21,14 +20,13 @@ const CHANGE: usize = 8;
 // Accepted structure changes that made fewer groups.
 const JOINING: usize = 46;
 
-// What a call gave: its code, 0 to 3 feeds, 4 to 7 readings and the size call, 8 a structure change, its answer, and whether all but the
-// words was as it should be.
+// What a call gave: its code, 0 to 3 feeds, 4 to 7 readings and the size call, 8 a structure change, and whether all but the words was as
+// it should be.
 #[derive(Drop)]
 pub struct Turn {
     pub session: Session,
     pub code: usize,
     pub number: usize,
-    pub touches: usize,
     pub agreed: bool,
 }
 
@@ -41,32 +39,33 @@ fn feed_cause(k: usize, left: usize, cells: usize, width: usize) -> usize {
     if cells != times(k, width) { 8 } else { 0 }
 }
 
-// Whether an accepted feed or structure change answered and left what it should, given the right numbers of the runs and the right sizes:
-// `laid` has the new runs, and takes over from the words what is free. The record is the one before, under the structure of the call.
+// Whether an accepted feed or structure change left what it should, given the right numbers of the runs and the right sizes: `laid` has the
+// new runs, and takes over from the words what is free. The record is the one before, under the structure of the call.
 pub fn check_accepted(
     session: Session,
     done: Done,
-    right: Answer,
+    fed: usize,
+    count: flood::Count,
     marks: &[u32; 1920],
     sizes: &[u32; 640],
     words: &[u32; 3841],
     laid: &mut [u32; 3841],
     e: Extent,
 ) -> bool {
-    let figures = right.figures;
-    let joins = layout::take_groups(laid, words, marks, e, figures.runs, sizes);
+    let joins = layout::take_groups(laid, words, marks, e, count.runs, sizes);
+    let right = answers::accepted(fed, count);
     let answer = done.answer;
     let after = done.session;
-    let alike = answers::record_is(after, session, right.count, figures);
+    let figures = right.figures;
+    let alike = answers::record_is(after, session, fed, figures);
     alike & (joins == figures.joins) & answers::same(answer, right)
 }
 
-// The same by the flood fill, where the touches are those of the k lines from one on, which are the last fed.
+// The same by the flood fill.
 fn check_fed(
     session: Session,
     done: Done,
-    from: usize,
-    k: usize,
+    fed: usize,
     words: &[u32; 3841],
     laid: &mut [u32; 3841],
     e: Extent,
@@ -75,14 +74,11 @@ fn check_fed(
 ) -> bool {
     let mut marks = [0u32; 1920];
     let mut sizes = [0u32; 640];
-    let fed = plus(from, k);
     let cells = times(fed, e.width);
     let count = flood::number_cells(e, structure, flags, cells, &mut marks);
     flood::count_cells(&marks, cells, &mut sizes);
     layout::lay(laid, e, flags, fed);
-    let touches = flood::touches::count(e, structure, flags, from, k);
-    let right = answers::fed(fed, count, touches);
-    check_accepted(session, done, right, &marks, &sizes, words, laid, e)
+    check_accepted(session, done, fed, count, &marks, &sizes, words, laid, e)
 }
 
 fn check_refused(session: Session, done: Done, cause: usize) -> bool {
@@ -107,20 +103,19 @@ fn feed_lines(
     let cells = samples::part_of(flags, times(session.fed, e.width), count);
     let cause = feed_cause(k, left, cells.len(), e.width);
     let done = trial::feed(session, words, k, cells, code);
-    let from = session.fed;
+    let fed = plus(session.fed, k);
     let stands = (k != 0) | layout::words_alike(words, laid);
     let agreed = if cause == 0 {
-        check_fed(session, done, from, k, words, laid, e, structure, flags)
+        check_fed(session, done, fed, words, laid, e, structure, flags)
     } else {
         check_refused(session, done, cause)
     };
     let session = done.session;
-    let answer = done.answer;
+    let number = done.answer.number;
     Turn {
         session,
         code,
-        number: answer.number,
-        touches: answer.touches,
+        number,
         agreed: agreed & stands,
     }
 }
@@ -158,17 +153,16 @@ pub fn change(
     let fed = session.fed;
     let agreed = if cause == 0 {
         let wider = trial::under(session, structure);
-        check_fed(wider, done, 0, fed, words, laid, e, structure, flags)
+        check_fed(wider, done, fed, words, laid, e, structure, flags)
     } else {
         check_refused(session, done, cause)
     };
     let session = done.session;
-    let answer = done.answer;
+    let number = done.answer.number;
     Turn {
         session,
         code: CHANGE,
-        number: answer.number,
-        touches: answer.touches,
+        number,
         agreed,
     }
 }
@@ -252,7 +246,6 @@ pub fn check_read(
         session: after,
         code: plus(kind, 4),
         number: answer.number,
-        touches: answer.touches,
         agreed: fits & said & answers::same_record(after, session),
     }
 }
@@ -317,13 +310,7 @@ fn call_some(
 
 // Of a structure change also whether it was accepted, and then whether it made fewer groups.
 fn count_turn(turn: Turn, joins: usize, agreed: bool, state: &mut [u64; 48]) {
-    let of_change = turn.code == CHANGE;
-    tally::add_many(
-        state,
-        plus(tally::TOUCHES, of_change as usize),
-        turn.touches,
-    );
-    if of_change {
+    if turn.code == CHANGE {
         let accepted = turn.number == 0;
         let joined = turn.session.figures.joins != joins;
         tally::add(

@@ -4,5 +4,4 @@ pub mod NbrLineLaws
 pub mod MovesLaws
 pub mod PartLaws
 pub mod TouchByLaws
-pub mod TouchCountLaws
 pub mod LineTouchLaws

@@ -2,29 +2,29 @@
 -- Assumes nothing.
 use mathlib.Core.Path.{◌≡◌, refl, sym, ap, ◌∙◌, subst}
 use mathlib.Core.Bool.{Bool, true, false, cond, ◌&&◌}
-use mathlib.Core.List.{List, [], ◌++◌}
+use mathlib.Core.List.{List, [], ◌++◌, append-nil}
 use Prim.Native.Nat.{ℕ, suc, ◌+◌, ◌-◌, ◌*◌, ◌/◌, ◌^◌, ◌≤◌, ◌<◌}
 use native.Mathlib.Nat.{le_refl, zero-add}
 use native.Mathlib.Numerals.{add-one}
 use native.Mathlib.Omega.{arith}
+use borrow.Author.Tests.{le-ltb}
 use lib.ListN.{length}
 use Rattle.groups.specs.Groups.{Edge, gather, pairs}
 use Rattle.groups.proofs.RepLaws.{Ends, mem_ends, ends_all}
-use Rattle.groups.proofs.GatherLaws.{gather_snoc, gather_from, gather_none, pairs_ends}
+use Rattle.groups.proofs.GatherLaws.{gather_split, gather_snoc, gather_from, gather_none, pairs_ends}
 use Rattle.frame.specs.Shape.{size}
-use Rattle.frame.specs.Structure.{offset, on}
+use Rattle.frame.specs.Structure.{offset, backward, on}
 use Rattle.frame.specs.Runs.{Run}
 use Rattle.frame.specs.Words.{line_start, stored_run}
 use Rattle.frame.specs.Touches.{used, has_nbr, nbr_line, reaches, touches_by, touches_of}
-use Rattle.frame.proofs.TouchLaws.{nbr_earlier, by_same, touches_backward}
+use Rattle.frame.proofs.StructureLaws.{backward_below}
+use Rattle.frame.proofs.TouchLaws.{nbr_earlier, by_same}
 use Rattle.geo.specs.declared.Geo.{Geo}
 use Rattle.geo.specs.Geometry.{leading_of}
 use Rattle.link.specs.Lines.{LineReady, UnitedIn, touches_by_in, touches_in, runs_to}
-use Rattle.sweep.specs.Sweeps.{CountFits, Counted}
 use Rattle.sweep.proofs.TurnLaws.{united_few}
 use Rattle.link.proofs.PartLaws.{part_ready, starts_rise, in_start, in_runs, in_then}
 use Rattle.link.proofs.TouchByLaws.{leading_length, leading_size}
-use Rattle.link.proofs.TouchCountLaws.{next_fits, next_counted}
 
 module _ (g : Geo) (structure ws : List ℕ) (ℓ : ℕ) (R : LineReady g structure ws ℓ) (three : length g.dims ≡ 3) where
   abbrev n : ℕ
@@ -88,13 +88,6 @@ module _ (g : Geo) (structure ws : List ℕ) (ℓ : ℕ) (R : LineReady g struct
       (λ k l u. by_cases (λ es. es ≡ []) (line_start ws) (stored_run L ws) k refl
       (λ m h. let z : line_start ws (suc ℓ) - line_start ws ℓ ≡ 0 = omega arith in rw z (unfold pairs gather in refl)))
 
-  -- ---- all of them: only the codes below the middle are backward
-
-  pub touches_all : gather (touches_by_in g structure ws ℓ) 0 (3 ^ n / 2) ≡ touches_in g structure ws ℓ
-  touches_all =
-      ap (λ (x : ℕ). gather by 0 (3 ^ x / 2)) (sym (leading_length n g.dims L R.leading three))
-      ∙ sym (touches_backward ds structure (line_start ws) (stored_run L ws) ℓ)
-
   -- ---- by one code more
 
   module _ (now : List ℕ) (k t : ℕ) (E : UnitedIn L ws now (runs_to ws ℓ) (gather (touches_by_in g structure ws ℓ) 0 k) t) where
@@ -118,13 +111,27 @@ module _ (g : Geo) (structure ws : List ℕ) (ℓ : ℕ) (R : LineReady g struct
     pub joins_most : t ≤ runs_to ws ℓ
     joins_most = united_few (part_ready L ws ℓ R.lines).parents (upto_ends k) E.runs
 
-    -- a count of the touches
-    module _ (c c' : ℕ) (C : Counted c c' (gather (touches_by_in g structure ws ℓ) 0 k)) where
-      -- one that holds all of them holds those by this code
-      pub count_fits : k < 3 ^ n / 2 → CountFits c (touches_in g structure ws ℓ) → CountFits c' (touches_by_in g structure now ℓ k)
-      count_fits h F = subst (CountFits c') (ap by (zero-add k) ∙ sym same_by)
-          (next_fits by 0 k c c' C (3 ^ n / 2) h (subst (CountFits c) (sym touches_all) F))
+  -- ---- all of them: only the codes below the middle are backward
 
-      pub count_more : (c'' : ℕ) → Counted c' c'' (touches_by_in g structure now ℓ k)
-          → Counted c c'' (gather (touches_by_in g structure ws ℓ) 0 (k + 1))
-      count_more c'' D = next_counted by 0 k c c' C c'' (subst (Counted c' c'') (same_by ∙ sym (ap by (zero-add k))) D)
+  unused : (k : ℕ) → 3 ^ n / 2 ≤ k → k < 3 ^ n → used structure (length ds) k ≡ false
+  unfolding used
+  unused k l u =
+      let e : backward (offset (length ds) k) ≡ false = ap (λ (x : ℕ). backward (offset x k))
+      (leading_length n g.dims L R.leading three) ∙ backward_below n k u ∙ le-ltb k (3 ^ n / 2) l in
+      rw e
+
+  forward : (k : ℕ) → 3 ^ n / 2 ≤ k → k < 3 ^ n → by k ≡ []
+  unfolding touches_by
+  forward k l u = rw (unused k l u)
+
+  pub touches_all : gather (touches_by_in g structure ws ℓ) 0 (3 ^ n / 2) ≡ touches_in g structure ws ℓ
+  unfolding touches_of
+  touches_all =
+      let e : 3 ^ n ≡ 3 ^ n / 2 + (3 ^ n - 3 ^ n / 2) = omega arith in
+      sym
+      (ap (λ (x : ℕ). gather by 0 (3 ^ x)) (leading_length n g.dims L R.leading three)
+      ∙ ap (gather by 0) e
+      ∙ gather_split by 0 (3 ^ n / 2) (3 ^ n - 3 ^ n / 2)
+      ∙ ap (λ (l : List Edge). gather by 0 (3 ^ n / 2) ++ l)
+      (gather_none by (0 + 3 ^ n / 2) (3 ^ n - 3 ^ n / 2) (λ k l u. forward k (omega arith) (omega arith)))
+      ∙ append-nil (gather by 0 (3 ^ n / 2)))

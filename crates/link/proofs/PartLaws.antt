@@ -21,7 +21,7 @@ use Rattle.forest.specs.Unions.{parent_in, size_in, Sized, Summed, GroupWordsOnl
 use Rattle.forest.proofs.UnitedLaws.{united_none, united_then, united_sizes}
 use Rattle.sweep.specs.declared.LinePair.{LinePair}
 use Rattle.sweep.specs.declared.Nbr.{Nbr}
-use Rattle.sweep.specs.Sweeps.{run_in, InOrder, TwoLines, link_pairs, Counted}
+use Rattle.sweep.specs.Sweeps.{run_in, InOrder, TwoLines, link_pairs}
 use Rattle.link.specs.Lines.{LinesReady, UnitedIn, pairs_of, runs_to}
 
 -- the starts of lines in order rise
@@ -114,16 +114,6 @@ module _ (L : ℕ) (ws : List ℕ) (ℓ m : ℕ) (R : LinesReady L ws ℓ) (h : 
   pub lent_lines : TwoLines (mid_of (L + 1) (length ws - (L + 1)) ws) at
   lent_lines = rw (tail_mid (L + 1) ws, add-one ℓ, add-one m) (part_lines L ws ℓ R m h)
 
-  -- the pairs of the part are those of the whole
-  pub lent_pairs : (by : Nbr) → link_pairs by (run_in (mid_of (L + 1) (length ws - (L + 1)) ws)) at ≡ pairs_of L ws ℓ m by
-  lent_pairs by = rw (tail_mid (L + 1) ws, add-one ℓ, add-one m)
-      (ap (λ (f : ℕ → Run). link_pairs by f (record {
-        ca = line_start ws ℓ;
-        cb = line_start ws (suc ℓ);
-        na = line_start ws m;
-        nb = line_start ws (suc m);
-      })) (part_runs L ws))
-
   pub lent_back : (by : Nbr) (p : List ℕ) (t : ℕ)
       → United (mid_of (L + 1) (length ws - (L + 1)) ws) p (get_or ws (ℓ + 1) 0)
       (link_pairs by (run_in (mid_of (L + 1) (length ws - (L + 1)) ws)) at) t
@@ -138,10 +128,14 @@ module _ (L : ℕ) (ws : List ℕ) (ℓ m : ℕ) (R : LinesReady L ws ℓ) (h : 
       front : length (take (L + 1) ws) ≡ L + 1
       front = length-take-le (L + 1) ws (omega (arith, R.room))
 
+      lines : LinePair
+      lines = record { ca = line_start ws ℓ; cb = line_start ws (suc ℓ); na = line_start ws m; nb = line_start ws (suc m) }
+
+      plain : United (drop (L + 1) ws) p (line_start ws (suc ℓ)) (link_pairs by (run_in (drop (L + 1) ws)) lines) t
+      plain = rw (← tail_mid (L + 1) ws, ← add-one ℓ, ← add-one m) U
+
       there : United (drop (L + 1) ws) p (runs_to ws ℓ) (pairs_of L ws ℓ m by) t
-      there = subst (λ (x : ℕ). United (drop (L + 1) ws) p (line_start ws x) (pairs_of L ws ℓ m by) t) (add-one ℓ)
-          (rw (← tail_mid (L + 1) ws)
-          (subst (λ (es : List Edge). United (mid_of (L + 1) (length ws - (L + 1)) ws) p (get_or ws (ℓ + 1) 0) es t) (lent_pairs by) U))
+      there = subst (λ (f : ℕ → Run). United (drop (L + 1) ws) p (runs_to ws ℓ) (link_pairs by f lines) t) (part_runs L ws) plain
 
 -- ---- unions in the part, and what they leave
 
@@ -201,12 +195,8 @@ module _ (L : ℕ) (ws ws' : List ℕ) (n : ℕ) (es : List Edge) (t : ℕ) (E :
 -- ---- one after another
 
 module _ (L : ℕ) (ws : List ℕ) (ℓ : ℕ) (R : LinesReady L ws ℓ) where
-  in_none : UnitedIn L ws ws (runs_to ws ℓ) [] 0
+  pub in_none : UnitedIn L ws ws (runs_to ws ℓ) [] 0
   in_none = record { starts = refl; runs = united_none (drop (L + 1) ws) (runs_to ws ℓ) (part_ready L ws ℓ R).parents }
-
-  -- by no edges the words and a count of edges stay as they are
-  pub none_added : (es : List Edge) → es ≡ [] → (c : ℕ) → UnitedIn L ws ws (runs_to ws ℓ) es 0 × Counted c c es
-  none_added es e c = rw e (in_none, omega arith)
 
   -- after unions the lines are as ready as before
   module _ (ws' : List ℕ) (es : List Edge) (t : ℕ) (E : UnitedIn L ws ws' (runs_to ws ℓ) es t) where

@@ -120,11 +120,10 @@ module _ (n : ℕ) (dims : List ℕ) (L : ℕ) (D : ThreeDims n dims L) (three :
       line : m ≡ nbr_line ds (offset (length ds) k) ℓ
       line = found_line dims (three_digits n k) ℓ m a ∙ line_three
 
-      earlier : m < ℓ
-      earlier = subst (λ (x : ℕ). x < ℓ) (sym line) (nbr_earlier ds structure ℓ k below (used_is ∙ e) has)
+      pub by-earlier : m < ℓ
+      by-earlier = subst (λ (x : ℕ). x < ℓ) (sym line) (nbr_earlier ds structure ℓ k below (used_is ∙ e) has)
 
-      -- the neighbour is an earlier line, and the touches are the pairs of the two lines
-      pub by_pairs : (m < ℓ) × (touches_by (leading_of n dims) structure (line_start ws) (stored_run L ws) ℓ k
-          ≡ pairs_of L ws ℓ m (record { prev = prev; adj = adj; next = next }))
+      pub by_pairs : touches_by (leading_of n dims) structure (line_start ws) (stored_run L ws) ℓ k
+          ≡ pairs_of L ws ℓ m (record { prev = prev; adj = adj; next = next })
       unfolding touches_by
-      by_pairs = (earlier, rw (used_is ∙ e, has, ← line))
+      by_pairs = rw (used_is ∙ e, has, ← line)

@@ -1,55 +1,35 @@
 // The union of a line with its neighbours.
 //
-//     union_line    unites the runs of a line with those that they touch in the lines before; how many unions were joins is answered,
-//                   and how many touches there are is added to a lent number
+//     union_line    unites the runs of a line with those that they touch in the lines before, and answers how many unions were joins
 //     nbr_line      a line's neighbour by coordinates, for an offset that `offsets::delta` gives
 //
-// Promised (specs/Lines.antt): the roots afterwards are those of the grouping held before with the line's touches added, the answer counts
-// the unions whose roots differed, the lent number has risen by the touches, each pair of runs once for each offset, and every word but
-// group words (parents and sizes) stands.
+// Promised (specs/Lines.antt): the roots afterwards are those of the grouping held before with the line's touches added, the count is
+// that of the unions whose roots differed, and every word but group words (parents and sizes) stands.
 ghost use Rattle.std.specs.Prelude.{◌≡◌, map, ℕ, ◌/◌, ◌^◌, ◌<◌, nat_abs};
 ghost use Rattle.frame.specs.Shape.{size};
 ghost use Rattle.frame.specs.Structure.{digit};
-ghost use Rattle.sweep.specs.Sweeps.{CountFits, Counted};
 ghost use Rattle.link.specs.Coordinates.{Move, moved_to};
 ghost use Rattle.link.specs.Lines.{signed_coords, Moves, nbr_of, runs_to};
-ghost use Rattle.link.specs.Lines.{LinesReady, LineReady, UnitedIn, LineUnited, UnitedBy, pairs_of, touches_in, touches_by_in};
+ghost use Rattle.link.specs.Lines.{LinesReady, LineReady, UnitedIn, LineUnited, UnitedBy, pairs_of};
 
 // ---- a line and all its neighbours. The words are the whole memory: line starts, then the runs' words
 
-// A line that is united with its neighbours, and its leading coordinates.
-#[derive(Drop)]
-struct Current {
-    line: usize,
-    coords: [i64; 3],
-}
-
 // Unites the runs of a line, the last that there is, with those of its neighbours: by each leading offset that is used, in C order.
 // Answers how many of the unions were joins.
-pub fn union_line(
-    words: &mut [u32],
-    g: geo::Geo,
-    structure: &[u8],
-    line: usize,
-    touches: &mut usize,
-) -> usize
-    requires { LineReady g structure.now words.old line × CountFits touches.old (touches_in g structure.now words.old line) }
-    ensures { LineUnited g structure.now words.old words.new line result
-        × Counted touches.old touches.new (touches_in g structure.now words.old line) }
+pub fn union_line(words: &mut [u32], g: geo::Geo, structure: &[u8], line: usize) -> usize
+    requires { LineReady g structure.now words.old line }
+    ensures { LineUnited g structure.now words.old words.new line result }
 {
     if words[line] == words[line + 1] {
         return 0;
     }
     let dims = g.dims;
-    let here = Current {
-        line,
-        coords: coords(dims, line),
-    };
+    let c = coords(dims, line);
     let count = offsets::backward_count(g.leads);
     let mut joins: usize = 0;
     let mut code: usize = 0;
     while code < count {
-        joins += union_by(words, g, structure, here, code, touches);
+        joins += union_by(words, g, structure, line, c, code);
         code += 1;
     }
     joins
@@ -60,34 +40,21 @@ fn union_by(
     words: &mut [u32],
     g: geo::Geo,
     structure: &[u8],
-    here: Current,
+    line: usize,
+    c: [i64; 3],
     code: usize,
-    touches: &mut usize,
 ) -> usize
-    requires { LineReady g structure.now words.old here.line × (here.coords ≡ signed_coords g.dims here.line)
-        × (code < 3 ^ g.leads / 2) × CountFits touches.old (touches_by_in g structure.now words.old here.line code) }
-    ensures { UnitedBy g structure.now words.old words.new here.line code result
-        × Counted touches.old touches.new
-        (touches_by_in g structure.now words.old here.line code) }
+    requires { LineReady g structure.now words.old line × (c ≡ signed_coords g.dims line) × (code < 3 ^ g.leads / 2) }
+    ensures { UnitedBy g structure.now words.old words.new line code result }
 {
     let prev = structure[3 * code] != 0;
     let adj = structure[3 * code + 1] != 0;
     let next = structure[3 * code + 2] != 0;
     if prev | adj | next {
         let dims = g.dims;
-        let c = here.coords;
         let o = offsets::delta(g.leads, code);
         match nbr_line(dims, c, o) {
-            NbrLine::At(m) => {
-                link_lines(
-                    words,
-                    g.lines,
-                    here.line,
-                    m,
-                    sweep::Nbr { prev, adj, next },
-                    touches,
-                )
-            }
+            NbrLine::At(m) => link_lines(words, g.lines, line, m, sweep::Nbr { prev, adj, next }),
             NbrLine::Nothing => 0,
         }
     } else {
@@ -96,18 +63,10 @@ fn union_by(
 }
 
 // Unites the runs of a line with those of an earlier line `m`, by three bytes.
-fn link_lines(
-    words: &mut [u32],
-    lines: usize,
-    line: usize,
-    m: usize,
-    by: sweep::Nbr,
-    touches: &mut usize,
-) -> usize
-    requires { LinesReady lines words.old line × (m < line) × CountFits touches.old (pairs_of lines words.old line m by) }
+fn link_lines(words: &mut [u32], lines: usize, line: usize, m: usize, by: sweep::Nbr) -> usize
+    requires { LinesReady lines words.old line × (m < line) }
     ensures { UnitedIn lines words.old words.new (runs_to words.old line)
-        (pairs_of lines words.old line m by) result
-        × Counted touches.old touches.new (pairs_of lines words.old line m by) }
+        (pairs_of lines words.old line m by) result }
 {
     let at = sweep::LinePair {
         ca: words[line] as usize,
@@ -116,7 +75,7 @@ fn link_lines(
         nb: words[m + 1] as usize,
     };
     let base = lines + 1;
-    sweep::link(&mut words[base..], at, by, touches)
+    sweep::link(&mut words[base..], at, by)
 }
 
 // ---- the neighbour's line, by coordinates. The dimensions are three, those before the first being 1

@@ -1,6 +1,6 @@
 -- What ends a call: what it returns, and what it writes to the record and to the answer.
 -- Assumes nothing.
-use Rattle.std.specs.Prelude.{◌≡◌, List, [], ◌∷◌, ◌++◌, ℕ}
+use Rattle.std.specs.Prelude.{◌≡◌, List, [], ◌∷◌, ℕ}
 use Rattle.frame.specs.Plain.{Answer, fed, counted, refused, kept}
 use Rattle.frame.specs.Overlay.{overlay}
 use Rattle.label.specs.declared.Session.{Session}
@@ -8,13 +8,13 @@ use Rattle.record_c.specs.Records.{figure_words, words_of}
 
 -- for an answer: 0, or the number of the refusal
 abbrev pub returned : Answer → ℕ
-returned (fed l f t) = 0
+returned (fed l f) = 0
 returned (counted n f) = 0
 returned (refused c) = c
 
--- its first words: lines fed or n, then the figures, and of a feed or a structure change its touches. A refusal writes none
+-- its first words: lines fed or n, then the figures. A refusal writes none
 abbrev pub answer_words : Answer → List ℕ
-answer_words (fed l f t) = l ∷ figure_words f ++ (t ∷ [])
+answer_words (fed l f) = l ∷ figure_words f
 answer_words (counted n f) = n ∷ figure_words f
 answer_words (refused c) = []
 

@@ -171,14 +171,9 @@ pub fn end_feed(f: label::Fed, rec: &mut [u64], answer: &mut [u64]) -> u32
 {
     let said = f.answer;
     match said {
-        label::FeedAnswer::Accepted {
-            lines,
-            figures,
-            touches,
-        } => {
+        label::FeedAnswer::Accepted { lines, figures } => {
             write_record(f.session, rec);
-            let last = put_figures(answer, 0, lines, figures);
-            put(answer, last, touches as u64);
+            put_figures(answer, 0, lines, figures);
             0
         }
         label::FeedAnswer::Refused(cause) => cause.number(),

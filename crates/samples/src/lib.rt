@@ -163,16 +163,14 @@ fn moves(o: flood::Offset) -> usize {
     plus(a, b)
 }
 
-// 0: all ones; 1: faces; 2: many; 3: few; 4: the sides of each leading offset, and not its middle. The entry is not behind the middle one,
-// and has that offset.
+// 0: all ones; 1: faces; 2: many; 3: few. The entry is not behind the middle one, and has that offset.
 fn structure_byte(mode: u64, o: flood::Offset, x: u64) -> u8 {
     let drawn = x % 12;
     match mode {
         0 => 1,
         1 => (moves(o) < 2) as u8,
         2 => (drawn < 6) as u8,
-        3 => ((drawn < 2) as u8) << 7,
-        _ => (o.t3 != 1) as u8,
+        _ => ((drawn < 2) as u8) << 7,
     }
 }
 
@@ -198,7 +196,7 @@ fn make_half(structure: &mut [u8], count: usize, x: u64) {
     let mut o = flood::first_offset(count);
     for i in 0..plus(middle, 1) {
         y = next(y);
-        put_byte(structure, i, structure_byte(x % 5, o, y));
+        put_byte(structure, i, structure_byte(x % 4, o, y));
         o = flood::next_offset(o);
     }
     let before = byte(structure, left);

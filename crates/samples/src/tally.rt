@@ -29,9 +29,6 @@ pub const REFUSED_12: usize = 36;
 
 pub const REFUSED_19: usize = 43;
 
-// The touches that feeds report, and then those that structure changes do.
-pub const TOUCHES: usize = 37;
-
 // Counted here is what is not printed.
 pub const OTHER: usize = 39;
 
@@ -52,12 +49,8 @@ pub fn at(state: &[u64; 48], i: usize) -> u64 {
 }
 
 pub fn add(state: &mut [u64; 48], i: usize) {
-    add_many(state, i, 1)
-}
-
-pub fn add_many(state: &mut [u64; 48], i: usize, n: usize) {
     if i < 48 {
-        state[i] = std::num::wrapping_add_u64(state[i], n as u64);
+        state[i] = std::num::wrapping_add_u64(state[i], 1);
     }
 }
 

@@ -3,4 +3,4 @@ pub mod ReachedLaws
 pub mod SweepLaws
 pub mod TurnLaws
 pub mod ShiftLaws
-pub mod LinkLaws
+pub mod SideLaws

@@ -1,18 +1,18 @@
--- The pairs that a sweep takes are those that reach each other by three bytes, of runs that are not empty.
+-- A sweep's two comparisons say what the reach by three bytes says, of runs that are not empty.
 -- Assumes nothing.
-use mathlib.Core.Path.{◌≡◌, refl, sym, ap, ◌∙◌}
+use mathlib.Core.Path.{◌≡◌, refl, sym, ap}
 use mathlib.Core.Logic.{◌⊎◌, inl, inr}
 use mathlib.Core.Bool.{Bool, true, false, not, cond, ◌&&◌, ◌||◌, true≢false, and-false}
 use mathlib.Core.Bool as Bool
-use Prim.Native.Nat.{ℕ, suc, ◌+◌, ◌-◌, ◌≤◌, ◌<◌}
+use Prim.Native.Nat.{ℕ, suc, ◌+◌, ◌≤◌, ◌<◌}
 use native.Mathlib.Omega.{arith}
-use borrow.Author.Tests.{eqb-true, eq-eqb, ltb-true, ltb-false, leb-false, lt-ltb, le-leb, lt-leb, not-true}
-use lib.Dec.{eqb, ltb}
+use borrow.Author.Tests.{ltb-true, ltb-false, leb-false, lt-ltb, le-leb, lt-leb, not-true}
+use lib.Dec.{ltb}
 use Rattle.groups.proofs.BoolLaws.{and_true, and_left, and_right, or_left, or_right, or_cases, bool_same}
 use Rattle.frame.specs.Runs.{Run}
 use Rattle.frame.specs.Touches.{reach_prev, reach_adj, reach_next, reaches}
 use Rattle.frame.proofs.ReachLaws.{over, over_parts}
-use Rattle.sweep.specs.Sweeps.{swept, same_cell, apart}
+use Rattle.sweep.specs.Sweeps.{swept}
 
 module _ (lo hi : ℕ) (m c : Run) where
   pub swept_true : m.start + 1 < c.end + lo → c.start + 1 < m.end + hi → swept lo hi m c ≡ true
@@ -35,26 +35,6 @@ module _ (lo hi : ℕ) (m c : Run) where
   pub swept_open : c.start + 1 < m.end + hi → swept lo hi m c ≡ ltb (m.start + 1) (c.end + lo)
   unfolding swept
   swept_open h = rw (lt-leb (m.end + hi) (c.start + 1) h) (Bool.and_true (ltb (m.start + 1) (c.end + lo)))
-
--- the same single cell
-module _ (m c : Run) where
-  cell_true : c.start ≡ m.start → c.end ≡ m.end → c.end - c.start ≡ 1 → same_cell m c ≡ true
-  cell_true s e l = and_true _ _ (and_true _ _ (eq-eqb _ _ s) (eq-eqb _ _ e)) (eq-eqb _ _ l)
-
-  cell_parts : same_cell m c ≡ true → (c.start ≡ m.start) × (c.end ≡ m.end) × (c.end - c.start ≡ 1)
-  cell_parts h =
-      let k = and_left (eqb c.start m.start && eqb c.end m.end) _ h in (
-        eqb-true _ _ (and_left (eqb c.start m.start) _ k),
-        eqb-true _ _ (and_right (eqb c.start m.start) _ k),
-        eqb-true _ _ (and_right (eqb c.start m.start && eqb c.end m.end) _ h),
-      )
-
-  cell_false : ((c.start ≡ m.start) × (c.end ≡ m.end) × (c.end - c.start ≡ 1) → ⊥) → same_cell m c ≡ false
-  cell_false f = go (same_cell m c) refl
-    where
-      go : (t : Bool) → same_cell m c ≡ t → t ≡ false
-      go true h = absurd (f (cell_parts h))
-      go false h = refl
 
 -- the digit of 1 where a byte is set, of 0 where it is not
 abbrev pub wide : Bool → ℕ
@@ -116,50 +96,18 @@ module _ (m c : Run) (hm : m.start < m.end) (hc : c.start < c.end) where
       here prev true a b false x true y = let l = ltb-false m.start c.end x in by_next refl (omega arith, omega arith)
       here prev false a b false x true y = let l = ltb-false m.start c.end x in absurd (omega arith)
 
-  -- the middle byte zero: shifted to the side whose byte is set. Digits 0 and 2 are those of -1 and 1
-  pub reaches_prev : reaches true false false m c ≡ swept 0 2 m c
-  reaches_prev = bool_same _ _ (λ e. there (way true false false e)) (λ e. back true false false (here (swept_parts 0 2 m c e)))
+  -- the middle byte zero: shifted by one, to either side whose byte is set. Digits 0 and 2 are those of -1 and 1
+  pub reaches_sides : (prev next : Bool) → reaches prev false next m c ≡ true
+      → ((prev ≡ true) × (swept 0 2 m c ≡ true)) ⊎ ((next ≡ true) × (swept 2 0 m c ≡ true))
+  reaches_sides prev next e = go (way prev false next e)
     where
-      there : Way true false false → swept 0 2 m c ≡ true
-      there (by_prev e k) = swept_true 0 2 m c (omega arith) (omega arith)
-      there (by_adj e k) = absurd (true≢false (sym e))
-      there (by_next e k) = absurd (true≢false (sym e))
+      go : Way prev false next → ((prev ≡ true) × (swept 0 2 m c ≡ true)) ⊎ ((next ≡ true) × (swept 2 0 m c ≡ true))
+      go (by_prev s k) = inl (s, swept_true 0 2 m c (omega arith) (omega arith))
+      go (by_adj s k) = absurd (true≢false (sym s))
+      go (by_next s k) = inr (s, swept_true 2 0 m c (omega arith) (omega arith))
 
-      here : (m.start + 1 < c.end + 0) × (c.start + 1 < m.end + 2) → Way true false false
-      here k = by_prev refl (omega arith, omega arith)
+  pub prev-reaches : (adj next : Bool) → swept 0 2 m c ≡ true → reaches true adj next m c ≡ true
+  prev-reaches adj next e = let k = swept_parts 0 2 m c e in back true adj next (by_prev refl (omega arith, omega arith))
 
-  pub reaches_next : reaches false false true m c ≡ swept 2 0 m c
-  reaches_next = bool_same _ _ (λ e. there (way false false true e)) (λ e. back false false true (here (swept_parts 2 0 m c e)))
-    where
-      there : Way false false true → swept 2 0 m c ≡ true
-      there (by_prev e k) = absurd (true≢false (sym e))
-      there (by_adj e k) = absurd (true≢false (sym e))
-      there (by_next e k) = swept_true 2 0 m c (omega arith) (omega arith)
-
-      here : (m.start + 1 < c.end + 2) × (c.start + 1 < m.end + 0) → Way false false true
-      here k = by_next refl (omega arith, omega arith)
-
-  -- both sides: widened by both, and not the same single cell
-  pub reaches_sides : reaches true false true m c ≡ (apart m c && swept 2 2 m c)
-  reaches_sides = bool_same _ _ (λ e. there (way true false true e)) (λ e. back true false true (here
-      (not-true _ (and_left (apart m c) (swept 2 2 m c) e)) (swept_parts 2 2 m c (and_right (apart m c) (swept 2 2 m c) e))
-      (ltb (m.start + 1) c.end) refl (ltb (c.start + 1) m.end) refl))
-    where
-      there : Way true false true → (apart m c && swept 2 2 m c) ≡ true
-      there (by_prev e k) = and_true _ _ (ap not (cell_false m c (λ h. omega arith))) (swept_true 2 2 m c (omega arith) (omega arith))
-      there (by_adj e k) = absurd (true≢false (sym e))
-      there (by_next e k) = and_true _ _ (ap not (cell_false m c (λ h. omega arith))) (swept_true 2 2 m c (omega arith) (omega arith))
-
-      here : same_cell m c ≡ false → (m.start + 1 < c.end + 2) × (c.start + 1 < m.end + 2) → (x : Bool)
-          → ltb (m.start + 1) c.end ≡ x → (y : Bool) → ltb (c.start + 1) m.end ≡ y → Way true false true
-      here n k true x y' y = by_prev refl (ltb-true _ _ x, omega arith)
-      here n k false x true y = by_next refl (omega arith, ltb-true _ _ y)
-      here n k false x false y =
-          let u = ltb-false (m.start + 1) c.end x in
-          let v = ltb-false (c.start + 1) m.end y in
-          absurd (true≢false (sym (cell_true m c (omega arith) (omega arith) (omega arith)) ∙ n))
-
--- no byte set
-pub reaches_none : (m c : Run) → reaches false false false m c ≡ false
-unfolding reaches
-reaches_none m c = refl
+  pub next-reaches : (prev adj : Bool) → swept 2 0 m c ≡ true → reaches prev adj true m c ≡ true
+  next-reaches prev adj e = let k = swept_parts 2 0 m c e in back prev adj true (by_next refl (omega arith, omega arith))

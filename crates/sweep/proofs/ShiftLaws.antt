@@ -1,18 +1,14 @@
--- The offsets that sweeps are called with: one negated, a byte's, and what a sweep asks of their bits.
+-- The offsets that sweeps are called with: one negated, and a byte's.
 -- Assumes nothing.
 use mathlib.Core.Path.{◌≡◌, refl, ap, ◌∙◌}
 use mathlib.Core.Bool.{Bool, true, false}
-use mathlib.Core.List.{List}
-use Prim.Native.Nat.{ℕ, zero, suc, ◌-◌, ◌≤◌}
+use Prim.Native.Nat.{zero, suc, ◌-◌, ◌≤◌}
 use native.Mathlib.Omega.{arith}
 use lib.IntN.{ℤ, pos, negsuc, neg_ℤ, ◌-ℤ◌}
 use mir.Syntax.{w64}
 use mir.Val.{SFits, bool_byte, of_z, to_z}
 use mir.Facts.{to_z-of_z}
 use Rattle.frame.specs.Structure.{digit}
-use Rattle.frame.specs.Runs.{Run}
-use Rattle.sweep.specs.declared.LinePair.{LinePair}
-use Rattle.sweep.specs.Sweeps.{ToSweep}
 use Rattle.sweep.proofs.SignedLaws.{small, near_fits, neg_digit, off_back}
 use Rattle.sweep.proofs.ReachedLaws.{wide}
 
@@ -40,8 +36,3 @@ off_le o h = rw (off_back o h) h
 pub byte_le : (b : Bool) → digit (to_z w64 (bool_byte b)) ≤ 2
 byte_le true = omega (arith, byte_wide true)
 byte_le false = omega (arith, byte_wide false)
-
--- what a sweep asks, of the bits of its offsets
-pub off_asked : {keep : Run → Run → Bool} {p : List ℕ} {at : LinePair} {c : ℕ} (lo hi : ℤ) → ToSweep keep p at (digit lo) (digit hi) c
-    → ToSweep keep p at (digit (to_z w64 (of_z w64 lo))) (digit (to_z w64 (of_z w64 hi))) c
-off_asked lo hi A = rw (off_back lo A.is_lo, off_back hi A.is_hi) A

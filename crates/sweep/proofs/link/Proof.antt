@@ -1,14 +1,21 @@
--- `sweep::link` meets its contract: where it sweeps, the pairs of the sweep are its own.
+-- `sweep::link` meets its contract. The two shifted sweeps visit a pair twice where both bytes join it; the contract lists it once.
 -- Assumes nothing.
+use mathlib.Core.Logic.{inl, inr}
+use native.Mathlib.Nat.{zero-add}
+use native.Mathlib.Omega.{arith}
 use borrow.Author.Rules.{rules}
-use Rattle.sweep.proofs.LinkLaws.{by_middle, by_sides, by_prev, by_next, by_none, line_none, link_idle, link_swept, link_asks}
+use Rattle.sweep.proofs.ShiftLaws.{byte_wide, byte_le}
+use Rattle.sweep.proofs.TurnLaws.{lines_kept}
+use Rattle.sweep.proofs.SideLaws.{Side, side-on, side-off, link_idle, link-widened, linked-both, linked-one, link-few}
 use Rattle.sweep.proofs.link.Statement.{statement}
 use Rattle.sweep.proofs.link.Tie as tie
+use Rattle.sweep.proofs.link.Reads as reads
+use Rattle.sweep.proofs.link.Lts as lts
+use Rattle.sweep.proofs.sweep.Reads as sweep-reads
+use Rattle.sweep.proofs.sweep_shift.Reads as sweep-shift-reads
 
 returns : tie.Need-returns
-returns c =
-    let s = c.before.before.before.before in
-    link_idle s.requires.0 s.args.by s.args.touches.now (line_none _ s.args.at s.args.by c.if1.true)
+returns c = let s = c.before.before.before.before in link_idle s.requires s.args.by c.if1.true
 
 cast-sweep : tie.Need-overflow-cast-sweep
 cast-sweep c = search rules
@@ -18,73 +25,67 @@ cast-sweep-2 c = search rules
 
 sweep-requires : tie.Need-sweep-requires
 sweep-requires c κs =
-    let s = c.before.before.before.before.before.before.before.before.before in
-    link_asks (by_middle s.args.by c.before.before.before.before.if2.true) s.requires
+    let s = c.before.before.before.before.before.before.before.before in
+    let x = byte_le s.args.by.prev in
+    let y = byte_le s.args.by.next in
+    record { lines = s.requires; is_lo = omega arith; is_hi = omega arith }
 
 same_length : tie.Need-same-length
 same_length c = search rules
 
 returns-2 : tie.Need-returns-2
 returns-2 c =
-    let d = c.before.before.before in
-    let s = d.before.before.before.before.before.before.before.before.before in
-    rw (link_swept (by_middle s.args.by d.before.before.before.before.if2.true) s.requires.0)
-    c.before.before.sweep.ensures
-
-sweep-sides-requires : tie.Need-sweep-sides-requires
-sweep-sides-requires c κs =
-    let s = c.before.before.before.before.before.before.before.before.before in
-    link_asks (by_sides s.args.by c.before.before.before.before.if2.false c.before.before.if3.true) s.requires
-
-same-length-2 : tie.Need-same-length-2
-same-length-2 c = search rules
-
-returns-3 : tie.Need-returns-3
-returns-3 c =
-    let d = c.before.before.before in
-    let s = d.before.before.before.before.before.before.before.before.before in
-    rw (link_swept (by_sides s.args.by d.before.before.before.before.if2.false d.before.before.if3.true) s.requires.0)
-    c.before.before.sweep-sides.ensures
+    let s = c.before.before.before.before.before.before.before.before.before.before.before in
+    link-widened s.requires s.args.by c.before.before.before.before.before.before.if2.true (byte_wide s.args.by.next)
+    (byte_wide s.args.by.prev) c.before.before.sweep.ensures
 
 sweep-shift-requires : tie.Need-sweep-shift-requires
-sweep-shift-requires c κs =
-    let s = c.before.before.before.before.before.before.before.before.before.before in
-    let e = c.before.before in
-    link_asks (by_prev s.args.by e.before.before.before.if2.false e.before.if3.false e.if4.true) s.requires
+sweep-shift-requires c κs = search rules
 
-same-length-3 : tie.Need-same-length-3
-same-length-3 c = search rules
+add-joins : tie.Need-overflow-add-joins
+add-joins c = search rules
 
-returns-4 : tie.Need-returns-4
-returns-4 c =
-    let d = c.before.before.before in
-    let s = d.before.before.before.before.before.before.before.before.before.before in
-    let e = d.before.before in
-    rw (link_swept (by_prev s.args.by e.before.before.before.if2.false e.before.if3.false e.if4.true) s.requires.0)
-    c.before.before.sweep-shift.ensures
+-- where the ways with and without the first sweep meet
+abbrev Met : Type 0
+Met = lts.Joined3 (sweep-reads.Asked, sweep-reads.Learnt, sweep-shift-reads.Asked, sweep-shift-reads.Learnt) reads.Pre reads.Post
+
+first : (c : Met)
+    → let s = c.before.before.before.before.before.before in Side s.requires c.if3.p s.args.by.prev 0 2 c.if3.joins
+first c =
+    let s = c.before.before.before.before.before.before in
+    elim c.if3.branch [
+      | inl w ↦ rw (w.5, w.6, zero-add) (side-on s.requires s.args.by.prev 0 2 w.0.taken w.2.ensures)
+      | inr w ↦ rw (w.1, w.2) (side-off s.requires s.args.by.prev 0 2 w.0.left)
+    ]
 
 sweep-shift-requires-2 : tie.Need-sweep-shift-requires-2
 sweep-shift-requires-2 c κs =
-    let s = c.before.before.before.before.before.before.before.before.before.before.before in
-    let e = c.before.before in
-    link_asks (by_next s.args.by e.before.before.before.before.if2.false e.before.if4.false e.if5.true) s.requires
+    let s = c.before.before.before.before.before.before.before.before in
+    record { lines = lines_kept s.requires (first c.before.before); is_lo = omega arith; is_hi = omega arith }
 
-same-length-4 : tie.Need-same-length-4
-same-length-4 c = search rules
+returns-3 : tie.Need-returns-3
+returns-3 c =
+    let s = c.before.before.before.before.before.before.before.before.before.before.before.before in
+    let m = c.before.before.before.before.before.before in
+    linked-both s.requires s.args.by m.before.if2.false (first m) c.before.before.before.before.before.if4.true
+    c.before.before.before.sweep-shift2.ensures
 
-returns-5 : tie.Need-returns-5
-returns-5 c =
-    let d = c.before.before.before in
-    let s = d.before.before.before.before.before.before.before.before.before.before.before in
-    let e = d.before.before in
-    let b = by_next s.args.by e.before.before.before.before.if2.false e.before.if4.false e.if5.true in
-    rw (link_swept b s.requires.0) c.before.before.sweep-shift2.ensures
+-- no more joins than runs
+add-joins-2 : tie.Need-overflow-add-joins-2
+add-joins-2 c =
+    let s = c.before.before.before.before.before.before.before.before.before.before.before.before in
+    record { fits = omega (arith, link-few s.requires s.args.by (returns-3 c)) }
 
-returns-6 : tie.Need-returns-6
-returns-6 c =
-    let s = c.before.before.before.before.before.before.before.before.before in
-    link_idle s.requires.0 s.args.by s.args.touches.now
-    (by_none _ s.args.at s.args.by c.before.before.before.before.if2.false c.before.if4.false c.if5.false)
+same-length-2 : tie.Need-same-length-2
+same-length-2 c = (returns-3 c).kept.long
+
+same-length-3 : tie.Need-same-length-3
+same-length-3 c = (first c.before).kept.long
+
+returns-4 : tie.Need-returns-4
+returns-4 c =
+    let s = c.before.before.before.before.before.before.before in
+    linked-one s.requires s.args.by c.before.before.if2.false (first c.before) c.if4.false
 
 pub link_spec : {M : Type 1} → statement M
 link_spec =
@@ -96,13 +97,11 @@ link_spec =
     sweep-requires
     same_length
     returns-2
-    sweep-sides-requires
+    sweep-shift-requires
+    add-joins
+    sweep-shift-requires-2
+    add-joins-2
     same-length-2
     returns-3
-    sweep-shift-requires
     same-length-3
-    returns-4
-    sweep-shift-requires-2
-    same-length-4
-    returns-5
-    returns-6)
+    returns-4)

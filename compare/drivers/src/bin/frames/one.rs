@@ -21,7 +21,6 @@ pub enum Fault {
     Word,
     Size,
     Edge,
-    Touches,
     /// After a structure change the old structure's groups are expected.
     Structure,
 }
@@ -39,9 +38,8 @@ impl Fault {
             Ok("word") => Fault::Word,
             Ok("size") => Fault::Size,
             Ok("edge") => Fault::Edge,
-            Ok("touches") => Fault::Touches,
             Ok("structure") => Fault::Structure,
-            Ok(other) => panic!("COMPARE_FAULT is label, count, runs, joins, cells, refusal, word, size, edge, touches or structure, not {other}"),
+            Ok(other) => panic!("COMPARE_FAULT is label, count, runs, joins, cells, refusal, word, size, edge or structure, not {other}"),
         }
     }
 }
@@ -143,7 +141,6 @@ impl<N: Reads> Ours<N> {
             Fault::Runs => self.answer.now_mut()[1] ^= 1,
             Fault::Joins => self.answer.now_mut()[2] ^= 1,
             Fault::Cells => self.answer.now_mut()[3] ^= 1,
-            Fault::Touches => self.answer.now_mut()[4] ^= 1,
             Fault::Refusal => self.number = if self.number == 0 { 10 } else { 0 },
             Fault::Word => *self.words.now_mut().last_mut().expect("a word") ^= 1,
             Fault::Size => spoil_size(self.words.now_mut(), lines),
@@ -173,11 +170,8 @@ fn differs<C: Labels<N>, N: Reads>(r: &mut Random, f: &Frame<C>, blocks: usize, 
             }
             let a = o.answer.now();
             let set = f.cells.iter().filter(|c| !c.zero()).count() as u64;
-            if a[..4] != [n, count, count.wrapping_sub(n), set] {
+            if a[..4] != [n, count, count.wrapping_sub(n), set] || a[4..] != o.answer.was()[4..] {
                 return Some(format!("the Rust finds {n}, of {count} runs by their definition and {set} nonzero cells, and ours answers {:?}", &a[..4]));
-            }
-            if a[4..] != o.answer.was()[4..] {
-                return Some("a word of the answer past the fourth was written".into());
             }
             if let Some(i) = (0..theirs.out.len()).find(|&i| theirs.out[i] != o.out.now()[i]) {
                 return Some(format!("place {i} has {} in the Rust and {} in ours", theirs.out[i], o.out.now()[i]));

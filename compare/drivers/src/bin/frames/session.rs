@@ -1,6 +1,5 @@
 //! Sessions: a frame fed in pieces, with readings, size calls and structure changes between, refused calls among them. The Rust labels the
-//! frame as far as it was fed, its other lines zero, under the session's last structure. The touches that a feed or a structure change
-//! reports are held to a plain count, and so is what was reported since the last structure change.
+//! frame as far as it was fed, its other lines zero, under the session's last structure.
 
 pub mod changes;
 
@@ -9,7 +8,7 @@ use crate::ours::{ANSWER, Fed, Reads, label_open, label_record_words, label_size
 use drivers::frames::{below, cells, lines, make_lopsided, one_of, shape, size, structure};
 use drivers::kinds::Cell;
 use drivers::lent::Lent;
-use drivers::plain::{Did, PARENT, Runs, SIZE, left_byte, run_word, runs, touches, words_differ, words_needed};
+use drivers::plain::{Did, PARENT, Runs, SIZE, left_byte, run_word, runs, words_differ, words_needed};
 use drivers::random::Random;
 use drivers::tally::Tally;
 
@@ -25,18 +24,9 @@ struct Session {
     labels: Vec<u32>,
     n: u64,
     runs: Runs,
-    /// The touches reported since the last structure change, or since the opening.
-    reported: u64,
     /// What was called, for the report.
     calls: Vec<String>,
     fault: Fault,
-}
-
-/// What a call does if it is accepted: a feed, with so many lines fed before it, a structure change, a reading or a size call.
-enum Does {
-    Feed { before: usize },
-    Change,
-    Read,
 }
 
 /// Whether the call's answer, record, words and edges are as they should be.
@@ -63,7 +53,7 @@ impl Session {
         // SAFETY: each pointer is good for its count
         let number = unsafe { label_open(shape.as_ptr(), rank, structure.as_ptr(), bytes, words.pointer(), room, record.pointer(), long) };
         let (lines, w) = (lines(&shape), shape[rank - 1]);
-        let mut s = Session { lines, w, set: Vec::new(), fed: 0, labels: vec![0; size(&shape)], n: 0, runs: runs(&[], w, false), reported: 0, calls: Vec::new(), fault, shape, structure, words, record };
+        let mut s = Session { lines, w, set: Vec::new(), fed: 0, labels: vec![0; size(&shape)], n: 0, runs: runs(&[], w, false), calls: Vec::new(), fault, shape, structure, words, record };
         must(number == 0, || format!("the opening returns {number}"))?;
         let mut want = s.words.was().to_vec();
         want[0] = 0;
@@ -100,14 +90,13 @@ impl Session {
         [runs, runs - self.n, self.set.iter().filter(|&&set| set).count() as u64]
     }
 
-    /// The words, the record and the answer after a call that returned a number and should return `want`.
-    fn hold(&mut self, mut number: u32, want: u32, answer: &mut Lent<u64>, does: Does) -> Held {
+    /// The words, the record and the answer after a call that returned a number and should return `want`, and should say `first` and the figures.
+    fn hold(&mut self, mut number: u32, want: u32, answer: &mut Lent<u64>, first: u64, named: bool, united: bool) -> Held {
         match self.fault {
             Fault::Count => answer.now_mut()[0] ^= 1,
             Fault::Runs => answer.now_mut()[1] ^= 1,
             Fault::Joins => answer.now_mut()[2] ^= 1,
             Fault::Cells => answer.now_mut()[3] ^= 1,
-            Fault::Touches => answer.now_mut()[4] ^= 1,
             Fault::Refusal => number = if number == 0 { 10 } else { 0 },
             Fault::Word => *self.words.now_mut().last_mut().expect("a word") ^= 1,
             Fault::Size => spoil_size(self.words.now_mut(), self.lines),
@@ -121,13 +110,8 @@ impl Session {
         }
         let a = answer.now();
         let figures = self.figures();
-        let named = matches!(does, Does::Read);
-        let first = if named { self.n } else { self.fed as u64 };
         let says = a[0] == first && a[1..4] == figures;
-        must(says, || format!("it answers {:?}, and should answer {first} and {figures:?}", &a[..4]))?;
-        must(a[5..] == answer.was()[5..], || "a word of the answer past the fifth was written".into())?;
-        self.touches_held(a[4], answer.was()[4], &does)?;
-        let united = matches!(does, Does::Change) || matches!(does, Does::Feed { before } if before < self.fed);
+        must(says && a[4..] == answer.was()[4..], || format!("it answers {:?}, and should answer {first} and {figures:?}", &a[..4]))?;
         let did = Did { lines: self.lines, fed: self.fed, runs: &self.runs, w: self.w, labels: &self.labels, named, united };
         if let Some(d) = words_differ(&did, self.words.was(), self.words.now()) {
             return Err(d);
@@ -135,21 +119,6 @@ impl Session {
         self.record_is(figures)?;
         self.words.keep();
         Ok(())
-    }
-
-    /// The fifth word of the answer: of a feed the touches of its lines, of a structure change those of all lines fed; a reading leaves it. What
-    /// was reported since the last structure change, its own report included, is the touches of all lines fed.
-    fn touches_held(&mut self, word: u64, was: u64, does: &Does) -> Held {
-        let (before, from) = match does {
-            Does::Feed { before } => (self.reported, *before),
-            Does::Change => (0, 0),
-            Does::Read => return must(word == was, || "a reading writes the fifth word of the answer".into()),
-        };
-        let of = |lines| touches(&self.set, &self.shape, &self.structure, lines);
-        let (right, all) = (of(from..self.fed), of(0..self.fed));
-        must(word == right, || format!("it reports {word} touches, and its lines have {right}"))?;
-        self.reported = before + word;
-        must(self.reported == all, || format!("{} touches were reported, and the lines fed have {all}", self.reported))
     }
 
     fn feed<C: Fed>(&mut self, r: &mut Random) -> Held {
@@ -170,13 +139,12 @@ impl Session {
         let number = unsafe {
             C::FEED(self.record.pointer(), self.record.len(), self.words.pointer(), self.words.len(), k, cells.as_ptr(), count, answer.pointer(), places)
         };
-        let before = self.fed;
         if want == 0 {
             self.set.extend(cells.iter().map(|c| !Cell::zero(*c)));
             self.fed += k;
             self.relabel();
         }
-        self.hold(number, want, &mut answer, Does::Feed { before })
+        self.hold(number, want, &mut answer, self.fed as u64, false, k > 0)
     }
 
     fn read<N: Reads>(&mut self, r: &mut Random) -> Held {
@@ -203,7 +171,7 @@ impl Session {
             let wrong = (0..places).find(|&i| Into::<u64>::into(out.now()[i]) != self.labels[i] as u64);
             must(wrong.is_none(), || format!("place {wrong:?} of the output is not the Rust's"))?;
         }
-        self.hold(number, want, &mut answer, Does::Read)
+        self.hold(number, want, &mut answer, self.n, true, false)
     }
 
     fn sizes(&mut self, r: &mut Random) -> Held {
@@ -221,7 +189,7 @@ impl Session {
         let mut of = vec![0u32; self.n as usize + 1];
         self.labels.iter().for_each(|&l| of[l as usize] += 1);
         must(sizes.edges_stand() && if want == 0 { sizes.now() == &of[1..] } else { sizes.stands() }, || "the sizes are not those of the Rust's groups".into())?;
-        self.hold(number, want, &mut answer, Does::Read)
+        self.hold(number, want, &mut answer, self.n, true, false)
     }
 
     /// Calls that are refused whatever the session holds: a short record, a short answer, a record of words that no call leaves.

@@ -1,6 +1,9 @@
 -- `calls_test::plain::copy_bytes` is safe and ends. Slices lent keep their length.
 -- Assumes nothing.
-use Rattle.std.proofs.Common.{◌≡◌, ◌-◌, length, rules}
+use mathlib.Core.Path.{◌≡◌}
+use lib.ListN.{length}
+use borrow.Author.Rules.{rules}
+use Prim.Native.Nat.{◌-◌}
 use Rattle.calls_test.proofs.plain.copy_bytes.Statement.{statement}
 use Rattle.calls_test.proofs.plain.copy_bytes.Tie as tie
 

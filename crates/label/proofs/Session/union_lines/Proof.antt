@@ -5,7 +5,7 @@ use borrow.Author.Rules.{rules}
 use lib.ListN.{length}
 use native.Mathlib.Omega.{arith}
 use Rattle.label.proofs.RecordGeometry.{sound_bytes}
-use Rattle.label.proofs.FeedBlockLaws.{feed_ready, feed_lines_fit, feed_figures_fit, feed_done, feed_counts}
+use Rattle.label.proofs.FeedBlockLaws.{feed_ready, feed_lines_fit, feed_figures_fit, feed_done}
 use Rattle.label.proofs.Session.union_lines.Statement.{statement}
 use Rattle.label.proofs.Session.union_lines.Tie as tie
 
@@ -30,8 +30,8 @@ plus-requires c κs =
     feed_figures_fit s.args.t1 p.words s.args.k p.cells s.args.g _ s.args.new X long
     u.new.0 u.result u.ensures
 
-add-session : tie.Need-overflow-add-session
-add-session c =
+add-s : tie.Need-overflow-add-s
+add-s c =
     let s = c.before.before.before.before.before.before.before.before.before.before.before in
     let p = s.requires in
     record { fits = omega (arith, feed_lines_fit s.args.t1 p.words s.args.k p.cells p.extracted.given) }
@@ -44,11 +44,9 @@ returns c =
     let s = c.before.before.before.before.before.before.before.before.before.before.before in
     let u = c.before.before.before.before.before.union-block in
     λ ws cells X.
-    let long = sound_bytes s.args.t1 ws (structure-long s) X.given.is_sound in (
-      feed_done s.args.t1 ws s.args.k cells s.args.g _ s.args.new X long u.new.0 u.result u.ensures
-          c.before.plus.ensures,
-      feed_counts s.args.t1 ws s.args.k cells s.args.g _ s.args.new X long u.new.0 u.result u.ensures,
-    )
+    feed_done s.args.t1 ws s.args.k cells s.args.g _ s.args.new X
+    (sound_bytes s.args.t1 ws (structure-long s) X.given.is_sound) u.new.0 u.result u.ensures
+    c.before.plus.ensures
 
 pub union_lines_spec : {M : Type 1} → statement M
-union_lines_spec = tie.close (tie.spec union-block-requires plus-requires add-session same_length returns)
+union_lines_spec = tie.close (tie.spec union-block-requires plus-requires add-s same_length returns)

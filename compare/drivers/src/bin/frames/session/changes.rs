@@ -1,7 +1,7 @@
 //! Structure changes: a session goes on under a wider structure. What is returned is held to the documents' rule, and afterwards everything
 //! to the Rust under the new structure. A refusal changes nothing.
 
-use super::{Does, Held, Session};
+use super::{Held, Session};
 use crate::one::Fault;
 use crate::ours::{ANSWER, label_widen};
 use drivers::frames::{below, make_lopsided, make_narrower, nonzero, one_of, structure, symmetric, wider};
@@ -80,7 +80,7 @@ impl Session {
             self.relabel();
             self.structure = new;
         }
-        let held = self.hold(number, want, &mut answer, Does::Change);
+        let held = self.hold(number, want, &mut answer, self.fed as u64, false, true);
         if other && want != 0 {
             self.words.now_mut().copy_from_slice(&words);
             self.record.now_mut().copy_from_slice(&record);
