@@ -7,6 +7,7 @@
 //     union    makes one group of two runs' groups, with the sum of their sizes; true where they were two
 //     Uf       find and union over a held slice
 //     unite    union through a `Uf`, for callers that have the slice
+#![tactic(auto)]
 ghost use Rattle.std.specs.Prelude.{◌≡◌, suc, max};
 ghost use denote.Ref.{at_last};
 ghost use Rattle.forest.specs.Unions.{Parents, Sized, Finds, Unites, ToJoin, joined, ToReset, Reset};

@@ -45,6 +45,11 @@ coords_inj (d ∷ ds) p q hp hq e =
     let b : p % m ≡ q % m = coords_inj ds (p % m) (q % m) (mod-lt p pos) (mod-lt q pos) (tail-eq_of_cons-eq e) in
     sym (div-add-mod' p m) ∙ ap₂ (λ (x : ℕ) (y : ℕ). x * m + y) a b ∙ div-add-mod' q m
 
+-- a number below the size, by the first dimension
+below_first : (d : ℕ) (ds : List ℕ) (p : ℕ) → p < size (d ∷ ds) → p < d * size ds
+unfolding size
+below_first d ds p h = h
+
 -- a cell's coordinates are its line's, and its column
 pub coords_line : (shape : List ℕ) (p : ℕ) → 0 < length shape → p < size shape
     → coords shape p ≡ coords (leading shape) (p / width shape) ++ p % width shape ∷ []
@@ -65,7 +70,7 @@ coords_line (d ∷ (e ∷ ds)) p r h =
     L = lines (e ∷ ds)
 
     pos : 0 < size (e ∷ ds)
-    pos = factor_pos d (size (e ∷ ds)) p (unfold size in h)
+    pos = factor_pos d (size (e ∷ ds)) p (below_first d (e ∷ ds) p h)
 
     posw : 0 < w
     posw = factor_pos L w 0 (subst (λ (k : ℕ). 0 < k) (size_lines_lem (e ∷ ds)) pos)

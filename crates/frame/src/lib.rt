@@ -1,5 +1,7 @@
 // Frames, the chain rule, runs, causes, the plain session: specs/ has the definitions, proofs/ their laws. Of code there are only the
 // figures of an answer and the constants of the layout.
+#![tactic(auto)]
+
 ghost use Rattle.std.specs.Prelude.{◌≡◌};
 ghost use Rattle.frame.specs.Plain.{zero_figures};
 ghost use Rattle.frame.specs.Sums.{plus_figures, FiguresFit};

@@ -13,6 +13,7 @@
 // Printed are the answers, how many agreed and how many differed, the lines that do not have the form, the answers of each rank and those
 // that are `none`, and the numbers of the first line that differed and the first that does not have the form: 0 where there is none. A
 // line whose lengths do not fit its shape is refused by the call, and so differs.
+#![tactic(auto)]
 mod cells;
 mod fields;
 

@@ -4,6 +4,7 @@
 // each run's start and end are written to the lent words, in order, STRIDE words apart from place `at` on. Every other word stands.
 //
 // A line is taken by chunks of 64 cells, each by a mask with a bit for each cell. A kind of cell differs only in how its mask is made.
+#![tactic(auto)]
 ghost use Rattle.std.specs.Prelude.{◌≡◌, Bool, List, map, ◌+◌, ◌<◌, length, drop, set};
 ghost use Rattle.std.specs.Int.Count.{ones, count_trailing_zeros};
 ghost use Rattle.frame.specs.Kinds.{nz, nzℤ, nz_f};

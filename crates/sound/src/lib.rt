@@ -6,6 +6,7 @@
 // A run falls where it starts before the end of the run before it and the gap. In a line that is in order none falls but the first. So the
 // lines are in order exactly where as many runs fall as first runs do. Then there are at most h runs in a line, and the sum of the lengths
 // is at most the cells of the frame, fewer than 2^32.
+#![tactic(auto)]
 ghost use Rattle.std.specs.Prelude.{◌≡◌};
 ghost use Rattle.sound.specs.Stored.{words_sound, PassReady};
 ghost use Rattle.sound.specs.Passes.{LinesReady, LinesFound, RunsReady, RunsFound, BlockReady};

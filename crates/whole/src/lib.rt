@@ -10,6 +10,7 @@
 // is none, it writes word 0 and feeds the lines block by block. number_N passes a refusal on; else it compares n with the kind's largest
 // number (cause 10: the output stands) and writes names and numbers. What has just been written is not checked for soundness again: it
 // is proved sound.
+#![tactic(auto)]
 ghost use Rattle.std.specs.Prelude.{◌≡◌, map, ◌<◌, min, max, length};
 ghost use Rattle.frame.specs.Kinds.{nz, nzℤ, nz_f, u8, u16, u32};
 ghost use Rattle.label.specs.Cases.{read_answer};
