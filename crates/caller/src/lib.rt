@@ -32,7 +32,7 @@ struct Going {
 }
 
 // Four numbers of the list.
-#[derive(Drop)]
+#[derive(Clone, Copy)]
 struct Four {
     code: usize,
     a: usize,

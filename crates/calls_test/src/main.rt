@@ -22,7 +22,7 @@ const LATE: usize = 47;
 // ---- the list, and what it should answer
 
 // Where the plain session stands: the lines fed, and the count of numbers answered.
-#[derive(Drop)]
+#[derive(Clone, Copy)]
 struct Standing {
     fed: usize,
     at: usize,

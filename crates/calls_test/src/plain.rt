@@ -6,7 +6,7 @@ use trial::answers::Answer;
 
 // Four numbers of a list: the code is 0 to 3 for feeds, 4 to 6 for readings, 7 for the size call, 8 for a structure change, and any other
 // for no call.
-#[derive(Drop)]
+#[derive(Clone, Copy)]
 pub struct Call {
     pub code: usize,
     pub a: usize,

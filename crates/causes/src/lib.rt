@@ -16,7 +16,7 @@ ghost use Rattle.causes.specs.Cases.{cause_number, check_number};
 ghost use Rattle.causes.specs.Checks.{LentFound, FeedAsked};
 
 // In the order of document 01's table, then document 02's.
-#[derive(Drop)]
+#[derive(Clone, Copy)]
 pub enum Cause {
     // rank 0 or above 4
     Rank,
@@ -67,7 +67,7 @@ impl Cause {
 }
 
 // What a check of a call's arguments finds.
-#[derive(Drop)]
+#[derive(Clone, Copy)]
 pub enum Check {
     Passed,
     Failed(Cause),
@@ -85,7 +85,7 @@ impl Check {
 }
 
 // With it the geometry, where the check passed: an enum holds no array.
-#[derive(Drop)]
+#[derive(Clone, Copy)]
 pub struct Checked {
     pub check: Check,
     pub geo: geo::Geo,

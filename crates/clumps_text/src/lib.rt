@@ -17,14 +17,14 @@ ghost use Rattle.clumps_text.specs.Steps.{LabelReady, Labels, answer_text};
 // ---- reading
 
 // A place of the text, or nowhere once the text is seen not to be of the form.
-#[derive(Drop)]
+#[derive(Clone, Copy)]
 enum Place {
     At(usize),
     Nowhere,
 }
 
 // A number that was read, and the place after its line.
-#[derive(Drop)]
+#[derive(Clone, Copy)]
 struct ParsedNumber {
     value: usize,
     next: Place,
@@ -156,7 +156,7 @@ fn parse_flags(text: &[u8], place: Place, n: usize, out: &mut [u8]) -> Place
 }
 
 // Width and lines that were read, and the place after their lines; then the place after all four.
-#[derive(Drop)]
+#[derive(Clone, Copy)]
 struct ParsedShape {
     width: usize,
     lines: usize,

@@ -70,7 +70,7 @@ pub fn word(x: usize) -> u32 {
 // ---- a frame in four dimensions: one of a smaller rank has dimensions of 1 in front, and offsets of 0 there
 
 // The dimensions, the last being the width; the count of lines; and whether the left byte is nonzero.
-#[derive(Drop)]
+#[derive(Clone, Copy)]
 pub struct Extent {
     pub d0: usize,
     pub d1: usize,
@@ -121,7 +121,7 @@ fn moved(x: usize, at: usize, digit: usize, n: usize) -> usize {
 }
 
 // An offset by its digits, one more than its parts; in a dimension that the structure lacks the digit is 1.
-#[derive(Drop)]
+#[derive(Clone, Copy)]
 pub struct Offset {
     pub t0: usize,
     pub t1: usize,
@@ -260,7 +260,7 @@ fn spread(
 }
 
 // The count of groups, of runs, and of nonzero cells.
-#[derive(Drop)]
+#[derive(Clone, Copy)]
 pub struct Count {
     pub n: usize,
     pub runs: usize,

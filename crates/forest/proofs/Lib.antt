@@ -5,4 +5,3 @@ pub mod ParentLaws
 pub mod UnionLaws
 pub mod UnitedLaws
 pub mod ResetLaws
-pub mod Again

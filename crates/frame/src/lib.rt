@@ -8,7 +8,7 @@ ghost use Rattle.frame.specs.Sums.{plus_figures, FiguresFit};
 
 // The figures that every accepted answer has, and a record keeps: runs, joins and nonzero cells so far. Definitions and code have them as
 // this one type.
-#[derive(Drop)]
+#[derive(Clone, Copy)]
 pub struct Figures {
     pub runs: usize,
     pub joins: usize,

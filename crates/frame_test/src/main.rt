@@ -7,7 +7,7 @@ use trial::answers::Answer;
 use trial::{answers, frames};
 
 // Which call: the kind of cells times 4 and the kind of numbers, the cells given, and the places of the output.
-#[derive(Drop)]
+#[derive(Clone, Copy)]
 struct Call {
     kinds: usize,
     cells: usize,

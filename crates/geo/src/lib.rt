@@ -24,7 +24,7 @@ const LIMIT: usize = 4294967293;
 
 // How many leading dimensions there are, and they as three, those before the first being 1; lines, width, and whether the left byte
 // is nonzero.
-#[derive(Drop)]
+#[derive(Clone, Copy)]
 pub struct Geo {
     pub leads: usize,
     pub dims: [usize; 3],
@@ -146,7 +146,7 @@ pub fn not_wider(rank: usize, old: &[u8], new: &[u8]) -> bool
 // ---- shapes that may stand in a record
 
 // Whether shape, structure, memory and lines fed are such as a sound record's, and where they are their geometry.
-#[derive(Drop)]
+#[derive(Clone, Copy)]
 pub struct Shaped {
     pub sound: bool,
     pub geo: Geo,

@@ -9,7 +9,7 @@ use label::Session;
 use samples::{below, next, tally};
 
 // A run that was a root and the run that became its parent; none where the two are one.
-#[derive(Drop)]
+#[derive(Clone, Copy)]
 struct Link {
     run: usize,
     to: usize,

@@ -93,7 +93,7 @@ pub fn coords(dims: [usize; 3], line: usize) -> [i64; 3]
 }
 
 // The Rust's `Option<usize>`: a line's neighbour, if it has one.
-#[derive(Drop)]
+#[derive(Clone, Copy)]
 pub enum NbrLine {
     At(usize),
     Nothing,

@@ -13,7 +13,7 @@ ghost use Rattle.runs.specs.Masks.{mask_of, Part, Shows, Weighs, Eight};
 ghost use Rattle.runs.specs.Boundaries.{boundary_at, BoundaryRoom, Put, Next, Took, places, alone, chunk_boundaries};
 
 // How many runs a line has, or several lines, and how many nonzero cells.
-#[derive(Drop)]
+#[derive(Clone, Copy)]
 pub struct Counts {
     pub runs: usize,
     pub cells: usize,
@@ -298,7 +298,7 @@ fn mask8(t: [u8; 64], j: usize) -> u8
 // ---- chunks
 
 // The mask of 64 cells, and the bit of the cell before them.
-#[derive(Drop)]
+#[derive(Clone, Copy)]
 struct Chunk {
     m: u64,
     carry: u64,

@@ -395,7 +395,7 @@ pub fn make_cells(flags: &[u8], b: &mut [u16; 640], d: &mut [i16; 640], e: &mut 
 // ---- frames
 
 // A shape is the first `rank` entries.
-#[derive(Drop)]
+#[derive(Clone, Copy)]
 pub struct Shape {
     pub rank: usize,
     pub entries: [usize; 4],

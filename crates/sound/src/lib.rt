@@ -41,7 +41,7 @@ pub fn words_sound(words: &[u32], g: geo::Geo, fed: usize, figures: frame::Figur
 }
 
 // What the pass over the lines finds: whether their starts and their last ends are sound, and how many first runs fall.
-#[derive(Drop)]
+#[derive(Clone, Copy)]
 struct Lines {
     sound: bool,
     falls: usize,
@@ -92,7 +92,7 @@ fn lines_pass(words: &[u32], g: geo::Geo, fed: usize, runs: usize) -> Lines
 
 // What the pass over the runs finds: how many have no cell or a parent above them, how many fall, how many are their own parents, the cells
 // of all, modulo 2^32, the last end, less one where the gap is 0, and the sum of the roots' sizes.
-#[derive(Drop)]
+#[derive(Clone, Copy)]
 struct Runs {
     wrong: u32,
     falls: u32,

@@ -13,7 +13,7 @@ ghost use Rattle.sweep.specs.Sweeps.{run_in, TwoLines, ToSweep, ToSkip, ToRow, S
 
 // The Rust's `Nbr`, of which here the three bytes of a leading offset: cell x of the neighbouring line touches cell x + 1 of the current
 // one (prev), x (adj), x - 1 (next).
-#[derive(Drop)]
+#[derive(Clone, Copy)]
 pub struct Nbr {
     pub prev: bool,
     pub adj: bool,
@@ -21,7 +21,7 @@ pub struct Nbr {
 }
 
 // The runs `ca` to before `cb` of the current line, and `na` to before `nb` of a neighbouring one.
-#[derive(Drop)]
+#[derive(Clone, Copy)]
 pub struct LinePair {
     pub ca: usize,
     pub cb: usize,

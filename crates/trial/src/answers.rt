@@ -4,7 +4,7 @@ use frame::Figures;
 use label::Session;
 
 // The documents' number, or 0; lines fed or n; and the figures. Zeros where refused.
-#[derive(Drop)]
+#[derive(Clone, Copy)]
 pub struct Answer {
     pub number: usize,
     pub count: usize,
@@ -12,7 +12,7 @@ pub struct Answer {
 }
 
 // What a call of a session gives.
-#[derive(Drop)]
+#[derive(Clone, Copy)]
 pub struct Done {
     pub answer: Answer,
     pub session: Session,

@@ -16,7 +16,7 @@ ghost use Rattle.write.specs.Steps.{Filled, PaintReady, LineToPaint, LinePainted
 
 // ---- kinds of numbers: the largest, and a number written as one
 
-#[derive(Drop)]
+#[derive(Clone, Copy)]
 pub struct LabelU8;
 
 impl LabelU8 {
@@ -30,7 +30,7 @@ impl LabelU8 {
     }
 }
 
-#[derive(Drop)]
+#[derive(Clone, Copy)]
 pub struct LabelU16;
 
 impl LabelU16 {
@@ -44,7 +44,7 @@ impl LabelU16 {
     }
 }
 
-#[derive(Drop)]
+#[derive(Clone, Copy)]
 pub struct LabelU32;
 
 impl LabelU32 {

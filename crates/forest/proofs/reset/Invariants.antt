@@ -1,0 +1,16 @@
+-- `forest::reset` meets its contract. The loop's invariant: runs a to before r are groups of their own, and every other word stands.
+-- Assumes nothing.
+use Prim.Native.Nat.{ℕ, suc, ◌*◌, ◌≤◌, ◌<◌, ◌-◌, max}
+use native.Mathlib.Omega.{arith}
+use lib.ListN.{length, get_or, length-set}
+use Rattle.frame.specs.Memory.{stride}
+use Rattle.frame.specs.Words.{start_at, end_at}
+use Rattle.forest.specs.Unions.{Reset}
+use Rattle.forest.proofs.ResetLaws.{reset_none, reset_more, reset_end}
+use Rattle.forest.proofs.reset.Given as goal
+
+abbrev pub invariant-loop-r : goal.invariant-loop-r
+invariant-loop-r l = (l.a ≤ l.r) × ((l.r ≤ max l.a l.b) × Reset l.initial.p l.p l.a l.r)
+
+abbrev pub decreases-loop-r : goal.decreases-loop-r
+decreases-loop-r l = l.b - l.r
