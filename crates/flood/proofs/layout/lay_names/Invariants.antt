@@ -1,0 +1,10 @@
+-- `flood::layout::lay_names` is safe and ends.
+-- Assumes nothing.
+use Rattle.std.proofs.Common.{◌-◌, arith}
+use Rattle.flood.proofs.layout.lay_names.Given as goal
+
+abbrev pub invariant-loop-run : goal.invariant-loop-run
+invariant-loop-run l = Unit {0}
+
+abbrev pub decreases-loop-run : goal.decreases-loop-run
+decreases-loop-run l = l.runs - l.run

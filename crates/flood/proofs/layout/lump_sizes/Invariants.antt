@@ -1,0 +1,10 @@
+-- `flood::layout::lump_sizes` is safe and ends. Slices lent keep their length.
+-- Assumes nothing.
+use Rattle.std.proofs.Common.{◌≡◌, ◌-◌, length, rules}
+use Rattle.flood.proofs.layout.lump_sizes.Given as goal
+
+abbrev pub invariant-loop-run : goal.invariant-loop-run
+invariant-loop-run l = length l.words ≡ length l.initial.words
+
+abbrev pub decreases-loop-run : goal.decreases-loop-run
+decreases-loop-run l = l.runs - l.run

@@ -1,0 +1,10 @@
+-- `flood::layout::places_alike` is safe and ends.
+-- Assumes nothing.
+use Rattle.std.proofs.Common.{◌-◌, arith}
+use Rattle.flood.proofs.layout.places_alike.Given as goal
+
+abbrev pub invariant-loop-i : goal.invariant-loop-i
+invariant-loop-i l = Unit {0}
+
+abbrev pub decreases-loop-i : goal.decreases-loop-i
+decreases-loop-i l = 640 - l.i

@@ -1,0 +1,10 @@
+-- `flood::layout::sum_lengths` is safe and ends.
+-- Assumes nothing.
+use Rattle.std.proofs.Common.{◌-◌, arith, rules}
+use Rattle.flood.proofs.layout.sum_lengths.Given as goal
+
+abbrev pub invariant-loop-run : goal.invariant-loop-run
+invariant-loop-run l = Unit {0}
+
+abbrev pub decreases-loop-run : goal.decreases-loop-run
+decreases-loop-run l = l.runs - l.run

@@ -1,0 +1,19 @@
+-- `not_wider` meets its contract: the left bytes are alike, no byte before i is dropped, and at the end all were looked at.
+-- Assumes nothing.
+use mathlib.Core.Path.{◌≡◌, refl, ◌∙◌}
+use mathlib.Core.Bool.{false}
+use Prim.Native.Nat.{◌-◌, ◌≤◌, ◌^◌}
+use native.Mathlib.Omega.{arith}
+use borrow.Author.Rules.{rules}
+use Rattle.frame.specs.Structure.{on}
+use Rattle.frame.specs.ChainRule.{any}
+use Rattle.frame.specs.Causes.{left_differs, dropped}
+use Rattle.geo.proofs.WiderLaws.{left_test, left_tells, drop_tells, one_more_kept, all_kept}
+use Rattle.geo.proofs.not_wider.Given as goal
+
+abbrev pub invariant-loop-i : goal.invariant-loop-i
+invariant-loop-i l =
+    (l.count ≡ 3 ^ l.rank) × (l.i ≤ l.count) × (left_differs l.rank l.old l.new ≡ false) × (any (dropped l.old l.new) l.i ≡ false)
+
+abbrev pub decreases-loop-i : goal.decreases-loop-i
+decreases-loop-i l = l.count - l.i

@@ -1,0 +1,15 @@
+-- `edges` meets its contract: the places of the bits that are left are the boundaries that are left to write.
+-- Assumes nothing.
+use Prim.Native.Nat.{◌+◌}
+use mathlib.Core.Path.{◌≡◌, refl}
+use native.Mathlib.Omega.{arith}
+use Rattle.runs.specs.Boundaries.{places}
+use Rattle.runs.proofs.BoundaryLaws.{Rest, rest_all, rest_same, rest_took, rest_next, rest_none}
+use Rattle.runs.proofs.MaskLaws.{no_place}
+use Rattle.runs.proofs.edges.Given as goal
+
+abbrev pub invariant-loop-e : goal.invariant-loop-e
+invariant-loop-e l = Rest l.initial.words l.at l.k-2 (places 64 l.e-2 l.x) l.words l.k (places 64 l.e l.x)
+
+abbrev pub decreases-loop-e : goal.decreases-loop-e
+decreases-loop-e l = l.e

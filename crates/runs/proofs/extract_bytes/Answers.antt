@@ -1,0 +1,54 @@
+-- `extract_bytes` meets its contract: after each turn the boundaries from column x on are left to be written, the cells to be counted.
+-- Assumes nothing.
+use Prim.Native.Nat.{◌-◌}
+use mathlib.Core.List.{map}
+use native.Mathlib.Omega.{arith}
+use lib.ListN.{length, length-map}
+use Rattle.frame.specs.Kinds.{nz}
+use Rattle.runs.proofs.PutLaws.{extracted_long}
+use Rattle.runs.proofs.ChunkLaws.{Going, going_begin, going_fits, going_sum, going_turn, going_end}
+use Rattle.runs.proofs.extract_bytes.Goals as goal
+
+pub returns : goal.returns
+returns c =
+    let m = c in
+    let t = m in
+    let n = length-map t.args.line.now nz in
+    going_end t.loop-x.invariant m.mask_u8-m-2.result m.mask_u8-m-2.ensures
+    (omega (arith, t.loop-x-test.false, t.loop-x.invariant.inside)) c.chunk_boundaries.ensures
+    c.chunk_cells.ensures
+
+pub loop-x-init : goal.loop-x-init
+loop-x-init c = going_begin
+
+pub chunk_boundaries-k-requires : goal.chunk_boundaries-k-requires
+chunk_boundaries-k-requires c =
+    let l = c in
+    going_fits l.loop-x.invariant c.mask_u8-m.result c.mask_u8-m.ensures l.requires
+
+pub overflow_add-cells : goal.overflow_add-cells
+overflow_add-cells c =
+    let m = c in
+    let l = m in
+    let r = l.requires in
+    omega (arith, going_sum l.loop-x.invariant m.mask_u8-m.result m.mask_u8-m.ensures c.chunk_cells-cells.ensures r)
+
+pub loop-x-preserved : goal.loop-x-preserved
+loop-x-preserved c =
+    let t = c in
+    let m = c.mask_u8-m in
+    let n = length-map t.args.line.now nz in
+    going_turn t.loop-x.invariant m.result m.ensures (omega (arith, t.loop-x-test.true, t.loop-x.invariant.inside))
+    c.chunk_boundaries-k.ensures c.chunk_cells-cells.ensures
+
+pub chunk_boundaries-requires : goal.chunk_boundaries-requires
+chunk_boundaries-requires c =
+    let l = c in
+    going_fits l.loop-x.invariant c.mask_u8-m-2.result c.mask_u8-m-2.ensures l.requires
+
+pub overflow_add-result : goal.overflow_add-result
+overflow_add-result c =
+    let m = c in
+    let l = m in
+    let r = l.requires in
+    omega (arith, going_sum l.loop-x.invariant m.mask_u8-m-2.result m.mask_u8-m-2.ensures c.chunk_cells.ensures r)

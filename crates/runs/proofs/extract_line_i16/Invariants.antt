@@ -1,0 +1,16 @@
+-- `extract_line_i16` meets its contract: after each turn the boundaries from column x on are left to be written, the cells to be counted.
+-- Assumes nothing.
+use Prim.Native.Nat.{◌-◌}
+use mathlib.Core.List.{map}
+use native.Mathlib.Omega.{arith}
+use lib.ListN.{length, length-map}
+use Rattle.frame.specs.Kinds.{nzℤ}
+use Rattle.runs.proofs.PutLaws.{extracted_long}
+use Rattle.runs.proofs.ChunkLaws.{Going, going_begin, going_fits, going_sum, going_turn, going_end}
+use Rattle.runs.proofs.extract_line_i16.Given as goal
+
+abbrev pub invariant-loop-x : goal.invariant-loop-x
+invariant-loop-x l = Going l.left (map nzℤ l.line) l.initial.words l.at l.words l.k l.cells l.carry l.x
+
+abbrev pub decreases-loop-x : goal.decreases-loop-x
+decreases-loop-x l = length l.line - l.x

@@ -1,0 +1,18 @@
+-- `mask64` meets its contract: after each turn m is the mask of the first j bytes.
+-- Assumes nothing.
+use Prim.Native.Nat.{ℕ, ◌-◌, ◌%◌, ◌≤◌}
+use mathlib.Core.Path.{◌≡◌, refl, ap, ◌∙◌}
+use mathlib.Core.Bool.{Bool}
+use mathlib.Core.List.{List, map}
+use native.Mathlib.Omega.{arith}
+use lib.ListN.{drop}
+use Rattle.frame.specs.Kinds.{nz}
+use Rattle.runs.specs.Masks.{mask_of, Weighs}
+use Rattle.runs.proofs.MaskLaws.{mask_lt, byte_turn}
+use Rattle.runs.proofs.mask64.Given as goal
+
+abbrev pub invariant-loop-j : goal.invariant-loop-j
+invariant-loop-j v = (v.j ≤ 64) × (v.j % 8 ≡ 0) × ((l : List Bool) → Weighs l v.t 64 → v.m ≡ mask_of v.j l)
+
+abbrev pub decreases-loop-j : goal.decreases-loop-j
+decreases-loop-j l = 64 - l.j

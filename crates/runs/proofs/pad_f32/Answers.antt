@@ -1,0 +1,21 @@
+-- `pad_f32` meets its contract: after each turn the first i cells are shown, and the bytes after them are zero.
+-- Assumes nothing.
+use Prim.Native.Nat.{◌+◌, ◌-◌, ◌≤◌}
+use mathlib.Core.Path.{◌∙◌}
+use mathlib.Core.List.{map}
+use native.Mathlib.Omega.{arith}
+use borrow.Author.Rules.{rules}
+use lib.Ieee.{nan}
+use Rattle.frame.specs.Kinds.{nz_f}
+use Rattle.runs.proofs.CopyLaws.{Copied, copy_none, copy_turn, copy_all, flag_of, nz_byte}
+use Rattle.runs.proofs.pad_f32.Goals as goal
+
+pub loop-i-init : goal.loop-i-init
+loop-i-init c = (omega arith, copy_none _ _)
+
+pub loop-i-preserved : goal.loop-i-preserved
+loop-i-preserved c =
+    let l = c.loop-i in
+    let a = c.args in
+    let flag = c.nz_f32.ensures ∙ flag_of nz_f a.line.now (a.x + l.i) nan (omega arith) in
+    (omega arith, copy_turn _ (omega arith) (nz_byte c.nz_f32.result ∙ flag) l.invariant.1)

@@ -1,0 +1,20 @@
+-- `weigh` meets its contract: after each turn the first i weights stand.
+-- Assumes nothing.
+use Prim.Native.Nat.{◌-◌, ◌≤◌}
+use mathlib.Core.Path.{◌≡◌, refl, ◌∙◌}
+use mathlib.Core.List.{map}
+use native.Mathlib.Omega.{arith}
+use lib.ListN.{length, length-set, get_or}
+use borrow.Author.Rules.{rules}
+use Rattle.frame.specs.Kinds.{nz}
+use Rattle.runs.specs.Masks.{Weighs}
+use Rattle.runs.proofs.MaskLaws.{flag_at, weigh_turn}
+use Rattle.runs.proofs.weigh.Goals as goal
+
+pub loop-i-preserved : goal.loop-i-preserved
+unfolding nz
+loop-i-preserved c =
+    let l = c.loop-i in
+    let b = c.args.b in
+    let more = weigh_turn (map nz b) l.t l.i (nz (get_or b l.i 0)) (omega arith) (flag_at b l.i) l.invariant.2 in
+    (omega arith, length-set l.t l.i _ ∙ l.invariant.1, more)

@@ -1,0 +1,18 @@
+-- `weigh` meets its contract: after each turn the first i weights stand.
+-- Assumes nothing.
+use Prim.Native.Nat.{◌-◌, ◌≤◌}
+use mathlib.Core.Path.{◌≡◌, refl, ◌∙◌}
+use mathlib.Core.List.{map}
+use native.Mathlib.Omega.{arith}
+use lib.ListN.{length, length-set, get_or}
+use borrow.Author.Rules.{rules}
+use Rattle.frame.specs.Kinds.{nz}
+use Rattle.runs.specs.Masks.{Weighs}
+use Rattle.runs.proofs.MaskLaws.{flag_at, weigh_turn}
+use Rattle.runs.proofs.weigh.Given as goal
+
+abbrev pub invariant-loop-i : goal.invariant-loop-i
+invariant-loop-i l = (l.i ≤ 64) × (length l.t ≡ 64) × Weighs (map nz l.b) l.t l.i
+
+abbrev pub decreases-loop-i : goal.decreases-loop-i
+decreases-loop-i l = 64 - l.i
