@@ -3,6 +3,7 @@
 //     extract_block_T   the runs of new lines, for each kind of cell: line starts, starts and ends; and the count of nonzero cells
 //     union_block       the union of new lines with their neighbours, once their runs are there: parents and sizes
 #![tactic(auto)]
+
 ghost use Rattle.std.specs.Prelude.{map};
 ghost use Rattle.frame.specs.Kinds.{nz, nzℤ, nz_f};
 ghost use Rattle.block.specs.Blocks.{RoomFor, Extracts, BlockReady, BlockUnited, ResetReady, ResetIn};

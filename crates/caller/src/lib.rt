@@ -4,6 +4,7 @@
 //
 // Each inner function that makes a call says what it does as one step of a list (`Steps` in specs/Making.antt).
 #![tactic(auto)]
+
 ghost use Rattle.std.specs.Prelude.{◌≡◌, List, [], ◌∷◌, ℕ, ◌+◌, ◌≤◌, ◌<◌, leb, length, get_or, replicate};
 ghost use Rattle.frame.specs.Kinds.{u8, u16, u32};
 ghost use Rattle.frame.specs.Plain.{zero_figures, read, sizes, numbers, counts};

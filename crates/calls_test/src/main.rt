@@ -1,6 +1,7 @@
 // Makes long random lists of calls by caller::make_calls, refused ones and no calls among them, and compares every number of the answers
 // with a plain session over the flood fill.
 #![tactic(auto)]
+
 mod plain;
 
 use flood::{Count, Extent, plus, times};

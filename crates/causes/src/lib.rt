@@ -8,6 +8,7 @@
 // Promised (specs/Checks.antt): the number is that of the first cause that holds, in the documents' order, or none. A check that works out
 // the geometry hands it on, so that it is worked out once.
 #![tactic(auto)]
+
 ghost use Rattle.std.specs.Prelude.{◌≡◌, true, ◌-◌, ◌*◌, ◌^◌, ◌≤◌, ◌<◌, ltb};
 ghost use Rattle.frame.specs.Causes.{open_cause, frame_cause, feed_cause, read_cause, sizes_cause, widen_cause};
 ghost use Rattle.frame.specs.Lists.{entries};

@@ -1,6 +1,7 @@
 // The program clumps: document 01's four lines from standard input, its answer to standard output. What is printed for each input is
 // proved of clumps_text's `report`; here its bytes are read and written.
 #![tactic(auto)]
+
 use libc::{STDIN_FILENO, STDOUT_FILENO};
 
 // Prints the answer to a text. No answer has more than 11,572 bytes (clumps_text's `output_most`), and the buffer has 65,536.

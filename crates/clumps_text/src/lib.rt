@@ -4,6 +4,7 @@
 // means nine ones. A text of any other form than specs/Input.antt's is refused by 11, and a lopsided structure by 12; no other refusal
 // can come.
 #![tactic(auto)]
+
 ghost use Rattle.std.specs.Prelude.{◌≡◌, [], ◌∷◌, ◌++◌, map, ◌-◌, ◌*◌, ◌≤◌, min, length, get_or, take, drop};
 ghost use Rattle.frame.specs.Kinds.{nz};
 ghost use Rattle.label.specs.Cases.{read_answer};

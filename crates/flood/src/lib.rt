@@ -4,6 +4,7 @@
 // Nothing is promised of what these functions answer; they are safe and they end. A read out of range gives 0, a write there does nothing,
 // sums wrap, and a product with a number of 65,536 or more is 0.
 #![tactic(auto)]
+
 pub mod changes;
 pub mod layout;
 

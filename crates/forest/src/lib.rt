@@ -8,6 +8,7 @@
 //     Uf       find and union over a held slice
 //     unite    union through a `Uf`, for callers that have the slice
 #![tactic(auto)]
+
 ghost use Rattle.std.specs.Prelude.{◌≡◌, suc, max};
 ghost use denote.Ref.{at_last};
 ghost use Rattle.forest.specs.Unions.{Parents, Sized, Finds, Unites, ToJoin, joined, ToReset, Reset};

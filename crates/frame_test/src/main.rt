@@ -1,6 +1,7 @@
 // Whole frames at run time, for every block count from 0 to one more than the lines, against a plain labelling by flood fill: answers,
 // numbers, and every word, among them the size of each root; and the same frames with lopsided structures, which are refused.
 #![tactic(auto)]
+
 use flood::{Extent, layout, less, plus, times};
 use samples::{below, next, tally};
 use trial::answers::Answer;

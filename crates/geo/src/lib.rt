@@ -9,6 +9,7 @@
 //     shape_sound                      whether shape, structure, memory and lines fed are such as a sound record's, and their geometry
 //     shape_of, structure_of           the arrays of a lent shape and structure
 #![tactic(auto)]
+
 ghost use Rattle.std.specs.Prelude.{◌≡◌, false, ◌||◌, ◌++◌, ◌-◌, ◌*◌, ◌^◌, ◌≤◌, ◌<◌, min, eqb, ltb, length, replicate};
 ghost use Rattle.frame.specs.Lists.{entries, padded};
 ghost use Rattle.frame.specs.Shape.{size, width, leading};

@@ -13,6 +13,7 @@
 // A call is a check and then the work: sound_check, feed_check, widen_check, read_check and sizes_check find the cause, and hand on the
 // record's geometry; what follows works on a record that is known to be sound.
 #![tactic(auto)]
+
 ghost use Rattle.std.specs.Prelude.{◌≡◌, Bool, List, map, ℕ, ◌-◌, ◌≤◌, length};
 ghost use Rattle.frame.specs.Kinds.{nz, nzℤ, nz_f, Number, u8, u16, u32, largest};
 ghost use Rattle.frame.specs.Plain.{fed, counted, unless};

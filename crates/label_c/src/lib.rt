@@ -12,6 +12,7 @@
 // A slice is a pointer and a count in C. A call returns 0 where it is accepted, else the documents' number, or 100 where the record or the
 // answer is too short. 100 is looked for first, then a structure word that is no byte (6); only then is the call itself made.
 #![tactic(auto)]
+
 ghost use Rattle.std.specs.Prelude.{◌≡◌};
 ghost use Rattle.frame.specs.Kinds.{nz, nzℤ, nz_f, u8, u16, u32};
 ghost use Rattle.record_c.specs.Records.{record_words};

@@ -1,6 +1,7 @@
 // Sessions at run time, against a plain labelling by flood fill: random calls, sizes after each line, structure changes, records of other
 // origin, damaged records and memories, and fixed cases of the causes.
 #![tactic(auto)]
+
 mod damage;
 mod fixed;
 mod origin;

@@ -6,6 +6,7 @@
 // Promised (specs/Lines.antt): the roots afterwards are those of the grouping held before with the line's touches added, the count is
 // that of the unions whose roots differed, and every word but group words (parents and sizes) stands.
 #![tactic(auto)]
+
 ghost use Rattle.std.specs.Prelude.{◌≡◌, map, ℕ, ◌/◌, ◌^◌, ◌<◌, nat_abs};
 ghost use Rattle.frame.specs.Shape.{size};
 ghost use Rattle.frame.specs.Structure.{digit};

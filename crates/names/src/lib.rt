@@ -6,6 +6,7 @@
 //
 // Promised (specs/Names.antt): each run named has its number as its name, no other word changes, and the roots so far are counted.
 #![tactic(auto)]
+
 ghost use Rattle.std.specs.Prelude.{◌≡◌, suc, ◌+◌, ◌*◌, ◌≤◌, ◌<◌, length, get_or};
 ghost use Rattle.frame.specs.Memory.{stride};
 ghost use Rattle.frame.specs.Words.{line_start};

@@ -6,6 +6,7 @@
 // Promised (specs/Digits.antt): an offset's parts plus one are its code's digits in base three, the first dimension's highest. So in rank 4
 // the code of [a, b, c] is 9 × (a + 1) + 3 × (b + 1) + (c + 1). The structure's bytes for code c are at 3c, 3c + 1 and 3c + 2.
 #![tactic(auto)]
+
 ghost use Rattle.std.specs.Prelude.{◌≡◌, ◌/◌, ◌^◌, ◌≤◌, ◌<◌};
 ghost use Rattle.offsets.specs.Digits.{OffsetOf};
 

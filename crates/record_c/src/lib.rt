@@ -1,6 +1,7 @@
 // A record and an answer as words, for the C interface: what is found in the words before a call is made, the record that they hold, and
 // what a call writes to them at its end. specs/Records.antt has the words of a record, Early.antt and Ends.antt the rest.
 #![tactic(auto)]
+
 ghost use Rattle.std.specs.Prelude.{◌≡◌, [], ◌∷◌};
 ghost use Rattle.frame.specs.Overlay.{overlay, Adds};
 ghost use Rattle.label.specs.Cases.{feed_answer, open_number, read_answer};

@@ -14,6 +14,7 @@
 // that are `none`, and the numbers of the first line that differed and the first that does not have the form: 0 where there is none. A
 // line whose lengths do not fit its shape is refused by the call, and so differs.
 #![tactic(auto)]
+
 mod cells;
 mod fields;
 

@@ -5,6 +5,7 @@
 //
 // A line is taken by chunks of 64 cells, each by a mask with a bit for each cell. A kind of cell differs only in how its mask is made.
 #![tactic(auto)]
+
 ghost use Rattle.std.specs.Prelude.{◌≡◌, Bool, List, map, ◌+◌, ◌<◌, length, drop, set};
 ghost use Rattle.std.specs.Int.Count.{ones, count_trailing_zeros};
 ghost use Rattle.frame.specs.Kinds.{nz, nzℤ, nz_f};

@@ -1,6 +1,7 @@
 // Random frames of rank 1 to 4 and of at most 640 cells, their cells in each kind, and sizes of other origin. A random number is made of
 // the one before, and all that a function makes is made of the one number that it is given.
 #![tactic(auto)]
+
 pub mod tally;
 
 use flood::{Extent, byte, layout, less, plus, put_byte};

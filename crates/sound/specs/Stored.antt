@@ -51,7 +51,7 @@ module _ (L w : ℕ) (left : Bool) (fed : ℕ) (figures : Figures) (ws : List �
   -- computed: that it decides `WordsSound` is proved in proofs/StoredLaws.antt
   unfoldable pub words_sound : Bool
   words_sound =
-      every (line_start ws 0 == 0
+      every ((line_start ws 0 == 0)
       ∷ all (λ ℓ. leb (line_start ws ℓ) (line_start ws (suc ℓ))) fed
       ∷ (line_start ws fed == runs)
       ∷ all (λ ℓ. leb (line_start ws (suc ℓ)) (line_start ws ℓ + most_runs left w)) fed

@@ -7,6 +7,7 @@
 // lines are in order exactly where as many runs fall as first runs do. Then there are at most h runs in a line, and the sum of the lengths
 // is at most the cells of the frame, fewer than 2^32.
 #![tactic(auto)]
+
 ghost use Rattle.std.specs.Prelude.{◌≡◌};
 ghost use Rattle.sound.specs.Stored.{words_sound, PassReady};
 ghost use Rattle.sound.specs.Passes.{LinesReady, LinesFound, RunsReady, RunsFound, BlockReady};

@@ -34,7 +34,7 @@ module _ (lo hi : ℕ) (m c : Run) where
 
   pub swept_open : c.start + 1 < m.end + hi → swept lo hi m c ≡ ltb (m.start + 1) (c.end + lo)
   unfolding swept
-  swept_open h = rw (lt-leb (m.end + hi) (c.start + 1) h) (Bool.and_true (ltb (m.start + 1) (c.end + lo)))
+  swept_open h = rw (lt-leb (m.end + hi) (c.start + 1) h) (Bool.and-true (ltb (m.start + 1) (c.end + lo)))
 
 -- the digit of 1 where a byte is set, of 0 where it is not
 abbrev pub wide : Bool → ℕ

@@ -6,6 +6,7 @@
 // Promised (specs/Sweeps.antt): the roots afterwards are those of the grouping held before with the pairs of runs that reach each other
 // added, the answer is how many of the unions were joins, and every word but group words (parents and sizes) stands.
 #![tactic(auto)]
+
 ghost use Rattle.std.specs.Prelude.{◌≡◌, ◌+◌, ◌-◌, ◌≤◌, ltb, leb};
 ghost use Rattle.forest.specs.Unions.{United};
 ghost use Rattle.frame.specs.Structure.{digit};

@@ -1,6 +1,7 @@
 // What the test programs share: the calls for each kind, with cells made of flags and numbers turned into words; their answers as numbers;
 // and the comparison of records. Nothing is promised of it; it is safe and it ends.
 #![tactic(auto)]
+
 pub mod answers;
 pub mod frames;
 

@@ -11,6 +11,7 @@
 // number (cause 10: the output stands) and writes names and numbers. What has just been written is not checked for soundness again: it
 // is proved sound.
 #![tactic(auto)]
+
 ghost use Rattle.std.specs.Prelude.{◌≡◌, map, ◌<◌, min, max, length};
 ghost use Rattle.frame.specs.Kinds.{nz, nzℤ, nz_f, u8, u16, u32};
 ghost use Rattle.label.specs.Cases.{read_answer};

@@ -9,6 +9,7 @@
 // its number as its name and no other word changes, each cell has the number of the run that covers it or 0, and each size is the word of
 // its number's root.
 #![tactic(auto)]
+
 ghost use Rattle.std.specs.Prelude.{◌≡◌, ◌+◌, ◌≤◌, length};
 ghost use Rattle.frame.specs.Kinds.{u8, u16, u32, write};
 ghost use Rattle.write.specs.Writes.{WriteReady, LinesWritten, SizesReady, SizesWritten};

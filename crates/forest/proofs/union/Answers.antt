@@ -46,15 +46,15 @@ returns-then-p-a-2 c = λ n P ha hb. one_parent _ n _ _ P ha hb c.if-p-a-2.true
 pub returns-then-ra-rb : goal.returns-then-ra-rb
 returns-then-ra-rb c =
     λ n P ha hb. let A = c.find-ra.ensures n P ha in
-        both_idle _ _ _ n _ _ _ _ P ha hb A (c.find-rb.ensures n (only_parents _ _ n P A.kept) hb) c.if-ra-rb.true
+    both_idle _ _ _ n _ _ _ _ P ha hb A (c.find-rb.ensures n (only_parents _ _ n P A.kept) hb) c.if-ra-rb.true
 
 -- lo and hi are the smaller and the larger root
 pub join-requires-2 : goal.join-requires-2
 join-requires-2 c =
     let is_lo : c.if-ra-rb-2.lo ≡ min c.find-ra.result c.find-rb.result =
-        elim c.if-ra-rb-2.branch [ then-ra-rb-2 w ↦ omega arith | else-ra-rb-2 w ↦ omega arith ] in
+    elim c.if-ra-rb-2.branch [ then-ra-rb-2 w ↦ omega arith | else-ra-rb-2 w ↦ omega arith ] in
     let is_hi : c.if-ra-rb-3.hi ≡ max c.find-ra.result c.find-rb.result =
-        elim c.if-ra-rb-3.branch [ then-ra-rb-3 w ↦ omega arith | else-ra-rb-3 w ↦ omega arith ] in
+    elim c.if-ra-rb-3.branch [ then-ra-rb-3 w ↦ omega arith | else-ra-rb-3 w ↦ omega arith ] in
     let Z = c.requires in
     let A = c.find-ra.ensures _ Z.parents (omega arith) in
     let B = c.find-rb.ensures _ (only_parents _ _ _ Z.parents A.kept) (omega arith) in
@@ -66,9 +66,9 @@ join-requires-2 c =
 pub returns : goal.returns
 returns c =
     let is_lo : c.if-ra-rb-2.lo ≡ min c.find-ra.result c.find-rb.result =
-        elim c.if-ra-rb-2.branch [ then-ra-rb-2 w ↦ omega arith | else-ra-rb-2 w ↦ omega arith ] in
+    elim c.if-ra-rb-2.branch [ then-ra-rb-2 w ↦ omega arith | else-ra-rb-2 w ↦ omega arith ] in
     let is_hi : c.if-ra-rb-3.hi ≡ max c.find-ra.result c.find-rb.result =
-        elim c.if-ra-rb-3.branch [ then-ra-rb-3 w ↦ omega arith | else-ra-rb-3 w ↦ omega arith ] in
+    elim c.if-ra-rb-3.branch [ then-ra-rb-3 w ↦ omega arith | else-ra-rb-3 w ↦ omega arith ] in
     λ n P ha hb. let A = c.find-ra.ensures n P ha in
-        rw (c.join-2.ensures, is_lo, is_hi)
-        (both_joined _ _ _ n _ _ _ _ P ha hb A (c.find-rb.ensures n (only_parents _ _ n P A.kept) hb) c.if-ra-rb.false)
+    rw (c.join-2.ensures, is_lo, is_hi)
+    (both_joined _ _ _ n _ _ _ _ P ha hb A (c.find-rb.ensures n (only_parents _ _ n P A.kept) hb) c.if-ra-rb.false)

@@ -10,7 +10,7 @@ use Rattle.runs.proofs.edges.Goals as goal
 
 pub returns-then-e-eq0 : goal.returns-then-e-eq0
 returns-then-e-eq0 c =
-    let one : let t = c in let a = t.args in Rest a.words.now a.at a.k (places 64 a.e a.x) c.next_edge-e.new.words (t.loop-e.k + 1) (places 64 c.next_edge-e.result a.x) =     let t = c in
+    let one : let t = c in let a = t.args in Rest a.words.now a.at a.k (places 64 a.e a.x) c.next_edge-e.new.words (t.loop-e.k + 1) (places 64 c.next_edge-e.result a.x) = let t = c in
     let l = t.loop-e in
     rest_took t.args.x l.e c.next_edge-e.result l.invariant c.next_edge-e.ensures in
     let o = c in
@@ -19,10 +19,10 @@ returns-then-e-eq0 c =
 
 pub loop-e-preserved : goal.loop-e-preserved
 loop-e-preserved c =
-    let one : let t = c in let a = t.args in Rest a.words.now a.at a.k (places 64 a.e a.x) c.next_edge-e.new.words (t.loop-e.k + 1) (places 64 c.next_edge-e.result a.x) =     let t = c in
+    let one : let t = c in let a = t.args in Rest a.words.now a.at a.k (places 64 a.e a.x) c.next_edge-e.new.words (t.loop-e.k + 1) (places 64 c.next_edge-e.result a.x) = let t = c in
     let l = t.loop-e in
     rest_took t.args.x l.e c.next_edge-e.result l.invariant c.next_edge-e.ensures in
-    let two : let t = c in let a = t.args in Rest a.words.now a.at a.k (places 64 a.e a.x) c.next_edge-e-in-loop-e.new.words (t.loop-e.k + 2) (places 64 c.next_edge-e-in-loop-e.result a.x) =     let o = c in
+    let two : let t = c in let a = t.args in Rest a.words.now a.at a.k (places 64 a.e a.x) c.next_edge-e-in-loop-e.new.words (t.loop-e.k + 2) (places 64 c.next_edge-e-in-loop-e.result a.x) = let o = c in
     let t = o in
     let k : t.loop-e.k + 1 + 1 ≡ t.loop-e.k + 2 = omega arith in
     rest_same refl k refl

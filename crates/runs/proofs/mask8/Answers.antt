@@ -17,7 +17,7 @@ loop-i-init c = (omega arith, λ l h. refl)
 
 pub overflow_add-s-in-loop-i : goal.overflow_add-s-in-loop-i
 overflow_add-s-in-loop-i c =
-    let more : let v = c.loop-i in let a = c.args in (l : List Bool) → Weighs l a.t 64 → v.s + get_or a.t (a.j + v.i) 0 ≡ mask_of (v.i + 1) (drop a.j l) = (λ l h.     let v = c.loop-i in
+    let more : let v = c.loop-i in let a = c.args in (l : List Bool) → Weighs l a.t 64 → v.s + get_or a.t (a.j + v.i) 0 ≡ mask_of (v.i + 1) (drop a.j l) = (λ l h. let v = c.loop-i in
     let a = c.args in
     let p = c.requires in
     eight_turn l a.t a.j v.i v.s h (omega (arith, p.inside, p.eight)) p.eight c.loop-i-test.true (v.invariant.1 l h)) in
@@ -29,7 +29,7 @@ overflow_add-s-in-loop-i c =
 
 pub loop-i-preserved : goal.loop-i-preserved
 loop-i-preserved c =
-    let more : let v = c.loop-i in let a = c.args in (l : List Bool) → Weighs l a.t 64 → v.s + get_or a.t (a.j + v.i) 0 ≡ mask_of (v.i + 1) (drop a.j l) = (λ l h.     let v = c.loop-i in
+    let more : let v = c.loop-i in let a = c.args in (l : List Bool) → Weighs l a.t 64 → v.s + get_or a.t (a.j + v.i) 0 ≡ mask_of (v.i + 1) (drop a.j l) = (λ l h. let v = c.loop-i in
     let a = c.args in
     let p = c.requires in
     eight_turn l a.t a.j v.i v.s h (omega (arith, p.inside, p.eight)) p.eight c.loop-i-test.true (v.invariant.1 l h)) in

@@ -15,16 +15,16 @@ use Rattle.runs.proofs.singles.Goals as goal
 
 pub edge-requires : goal.edge-requires
 edge-requires c =
-    let next : let a = c.args in let v = c.loop-m in let p = a.x + count_trailing_zeros 64 v.m in Rest a.words.now a.at a.k (alone (places 64 a.m a.x)) v.words v.k (p ∷ ((p + 1) ∷ alone (places 64 (bit_and v.m (v.m - 1)) a.x))) =     let l = c.loop-m in
+    let next : let a = c.args in let v = c.loop-m in let p = a.x + count_trailing_zeros 64 v.m in Rest a.words.now a.at a.k (alone (places 64 a.m a.x)) v.words v.k (p ∷ ((p + 1) ∷ alone (places 64 (bit_and v.m (v.m - 1)) a.x))) = let l = c.loop-m in
     rest_same refl refl (next_alone l.m c.args.x c.loop-m-test.true l.invariant.0) l.invariant.1 in
     let t = c in
     rest_room t.args.x (next) t.requires
 
 pub edge-requires-in-loop-m : goal.edge-requires-in-loop-m
 edge-requires-in-loop-m c =
-    let next : let a = c.args in let v = c.loop-m in let p = a.x + count_trailing_zeros 64 v.m in Rest a.words.now a.at a.k (alone (places 64 a.m a.x)) v.words v.k (p ∷ ((p + 1) ∷ alone (places 64 (bit_and v.m (v.m - 1)) a.x))) =     let l = c.loop-m in
+    let next : let a = c.args in let v = c.loop-m in let p = a.x + count_trailing_zeros 64 v.m in Rest a.words.now a.at a.k (alone (places 64 a.m a.x)) v.words v.k (p ∷ ((p + 1) ∷ alone (places 64 (bit_and v.m (v.m - 1)) a.x))) = let l = c.loop-m in
     rest_same refl refl (next_alone l.m c.args.x c.loop-m-test.true l.invariant.0) l.invariant.1 in
-    let second : let t = c in let a = t.args in let v = t.loop-m in Rest a.words.now a.at a.k (alone (places 64 a.m a.x)) c.edge.new.words (v.k + 1) ((a.x + count_trailing_zeros 64 v.m + 1) ∷ alone (places 64 (bit_and v.m (v.m - 1)) a.x)) =     let t = c in
+    let second : let t = c in let a = t.args in let v = t.loop-m in Rest a.words.now a.at a.k (alone (places 64 a.m a.x)) c.edge.new.words (v.k + 1) ((a.x + count_trailing_zeros 64 v.m + 1) ∷ alone (places 64 (bit_and v.m (v.m - 1)) a.x)) = let t = c in
     let l = t.loop-m in
     let p = ap (set l.words (boundary_at t.args.at l.k)) c.lowest-p.ensures in
     rest_same (sym (c.edge.ensures ∙ p)) refl refl (rest_one (next)) in
@@ -33,9 +33,9 @@ edge-requires-in-loop-m c =
 
 pub loop-m-preserved : goal.loop-m-preserved
 loop-m-preserved c =
-    let next : let a = c.args in let v = c.loop-m in let p = a.x + count_trailing_zeros 64 v.m in Rest a.words.now a.at a.k (alone (places 64 a.m a.x)) v.words v.k (p ∷ ((p + 1) ∷ alone (places 64 (bit_and v.m (v.m - 1)) a.x))) =     let l = c.loop-m in
+    let next : let a = c.args in let v = c.loop-m in let p = a.x + count_trailing_zeros 64 v.m in Rest a.words.now a.at a.k (alone (places 64 a.m a.x)) v.words v.k (p ∷ ((p + 1) ∷ alone (places 64 (bit_and v.m (v.m - 1)) a.x))) = let l = c.loop-m in
     rest_same refl refl (next_alone l.m c.args.x c.loop-m-test.true l.invariant.0) l.invariant.1 in
-    let second : let t = c in let a = t.args in let v = t.loop-m in Rest a.words.now a.at a.k (alone (places 64 a.m a.x)) c.edge.new.words (v.k + 1) ((a.x + count_trailing_zeros 64 v.m + 1) ∷ alone (places 64 (bit_and v.m (v.m - 1)) a.x)) =     let t = c in
+    let second : let t = c in let a = t.args in let v = t.loop-m in Rest a.words.now a.at a.k (alone (places 64 a.m a.x)) c.edge.new.words (v.k + 1) ((a.x + count_trailing_zeros 64 v.m + 1) ∷ alone (places 64 (bit_and v.m (v.m - 1)) a.x)) = let t = c in
     let l = t.loop-m in
     let p = ap (set l.words (boundary_at t.args.at l.k)) c.lowest-p.ensures in
     rest_same (sym (c.edge.ensures ∙ p)) refl refl (rest_one (next)) in

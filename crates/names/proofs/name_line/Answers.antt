@@ -1,0 +1,14 @@
+-- `name_line` meets its contract. The loop's invariant: the line's runs before r are named.
+-- Assumes nothing.
+use Prim.Native.Nat.{◌-◌}
+use borrow.Author.Rules.{rules}
+use Rattle.names.proofs.NameLaws.{now_long, NamedTo, line_begins, run_asked, line_turn, line_named}
+use Rattle.names.proofs.name_line.Goals as goal
+
+pub name_run-named-requires : goal.name_run-named-requires
+name_run-named-requires c = let i = c in run_asked i.loop-r.invariant i.loop-r-test.true
+
+pub loop-r-preserved : goal.loop-r-preserved
+loop-r-preserved c =
+    let i = c in
+    line_turn i.loop-r.invariant i.loop-r-test.true c.name_run-named.ensures

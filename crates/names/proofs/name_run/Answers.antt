@@ -1,0 +1,15 @@
+-- `name_run` meets its contract.
+-- Assumes nothing.
+use native.Mathlib.Omega.{arith}
+use borrow.Author.Rules.{rules}
+use lib.ListN.{length-set}
+use Rattle.names.proofs.NameLaws.{count_low, parent_low, count_fits, name_turn}
+use Rattle.names.proofs.name_run.Goals as goal
+
+pub overflow_add-words : goal.overflow_add-words
+overflow_add-words c = record { fits = omega (arith, count_low c.requires) }
+
+pub returns : goal.returns
+returns c =
+    let p = c in
+    name_turn p.requires p.word-up.ensures c.word-number.ensures
