@@ -98,9 +98,9 @@ module _ (p : List ℕ) (n : ℕ) (P : Parents p n) where
         omega (arith, after, before, now, roots_grouping (parent_in p) n P.low, U.counted)
 
     -- another list that joins the same runs
-    pub united-same : (fs : List Edge) → Ends (λ r. r < n) fs → ((a b : ℕ) → Groups.Joined es a b → Groups.Joined fs a b)
+    pub united_same : (fs : List Edge) → Ends (λ r. r < n) fs → ((a b : ℕ) → Groups.Joined es a b → Groups.Joined fs a b)
         → ((a b : ℕ) → Groups.Joined fs a b → Groups.Joined es a b) → United p q n fs t
-    united-same fs v f g = record {
+    united_same fs v f g = record {
       kept = U.kept;
       grouped = λ r h. U.grouped r h ∙ rep_same (visit es (held p n)) (visit fs (held p n)) (over es fs f) (over fs es g) r;
       counted =

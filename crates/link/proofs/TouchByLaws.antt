@@ -120,8 +120,8 @@ module _ (n : ℕ) (dims : List ℕ) (L : ℕ) (D : ThreeDims n dims L) (three :
       line : m ≡ nbr_line ds (offset (length ds) k) ℓ
       line = found_line dims (three_digits n k) ℓ m a ∙ line_three
 
-      pub by-earlier : m < ℓ
-      by-earlier = subst (λ (x : ℕ). x < ℓ) (sym line) (nbr_earlier ds structure ℓ k below (used_is ∙ e) has)
+      pub by_earlier : m < ℓ
+      by_earlier = subst (λ (x : ℕ). x < ℓ) (sym line) (nbr_earlier ds structure ℓ k below (used_is ∙ e) has)
 
       pub by_pairs : touches_by (leading_of n dims) structure (line_start ws) (stored_run L ws) ℓ k
           ≡ pairs_of L ws ℓ m (record { prev = prev; adj = adj; next = next })

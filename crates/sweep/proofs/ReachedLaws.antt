@@ -106,8 +106,8 @@ module _ (m c : Run) (hm : m.start < m.end) (hc : c.start < c.end) where
       go (by_adj s k) = absurd (true≢false (sym s))
       go (by_next s k) = inr (s, swept_true 2 0 m c (omega arith) (omega arith))
 
-  pub prev-reaches : (adj next : Bool) → swept 0 2 m c ≡ true → reaches true adj next m c ≡ true
-  prev-reaches adj next e = let k = swept_parts 0 2 m c e in back true adj next (by_prev refl (omega arith, omega arith))
+  pub prev_reaches : (adj next : Bool) → swept 0 2 m c ≡ true → reaches true adj next m c ≡ true
+  prev_reaches adj next e = let k = swept_parts 0 2 m c e in back true adj next (by_prev refl (omega arith, omega arith))
 
-  pub next-reaches : (prev adj : Bool) → swept 2 0 m c ≡ true → reaches prev adj true m c ≡ true
-  next-reaches prev adj e = let k = swept_parts 2 0 m c e in back prev adj true (by_next refl (omega arith, omega arith))
+  pub next_reaches : (prev adj : Bool) → swept 2 0 m c ≡ true → reaches prev adj true m c ≡ true
+  next_reaches prev adj e = let k = swept_parts 2 0 m c e in back prev adj true (by_next refl (omega arith, omega arith))

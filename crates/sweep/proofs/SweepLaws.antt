@@ -104,10 +104,10 @@ module _ (lo hi : ℕ) (R : ℕ → Run) (at : LinePair) where
   sweep_none ca = pairs_none passes ca (ca - ca) na (nb - na) (λ r s p q u v. absurd (omega arith))
 
   -- one row more
-  pub sweep-more : (ca i : ℕ) → ca ≤ i
+  pub sweep_more : (ca i : ℕ) → ca ≤ i
       → sweep_pairs lo hi R (between at ca (i + 1)) ≡ sweep_pairs lo hi R (between at ca i) ++ sweep_pairs lo hi R (between at i (i + 1))
   unfolding sweep_pairs
-  sweep-more ca i h =
+  sweep_more ca i h =
       let x : i + 1 - ca ≡ (i - ca) + 1 = omega arith in
       let y : i + 1 - i ≡ 1 = omega arith in
       let z : ca + (i - ca) ≡ i = omega arith in

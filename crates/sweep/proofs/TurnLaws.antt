@@ -22,7 +22,7 @@ use Rattle.forest.proofs.UnitedLaws.{united_none, united_then, united_groups, un
 use Rattle.sweep.specs.declared.LinePair.{LinePair}
 use Rattle.frame.specs.Structure.{digit}
 use Rattle.sweep.specs.Sweeps.{run_in, InOrder, TwoLines, ToSkip, Skipped, ToRow, row_pairs, RowUnites, sweep_pairs}
-use Rattle.sweep.proofs.SweepLaws.{starts, order_from, row_none, row_more, row_stop, row_ends, between, sweep_none, sweep-more}
+use Rattle.sweep.proofs.SweepLaws.{starts, order_from, row_none, row_more, row_stop, row_ends, between, sweep_none, sweep_more}
 use Rattle.sweep.proofs.SweepLaws.{sweep_row, sweep_ends, rises}
 
 -- ---- unions leave starts and ends
@@ -194,7 +194,7 @@ module _ {p : List ℕ} {lo hi : ℕ} {at : LinePair} (L : TwoLines p at) where
           );
           united =
               rw (
-                sweep-more lo hi (run_in p) at at.ca i T.from,
+                sweep_more lo hi (run_in p) at at.ca i T.from,
                 sweep_row lo hi (run_in p) at i r L.neighbour (omega (arith, T.low, S.low)) whole,
               )
               (united_then p at.cb L.sized.parents q (sweep_pairs lo hi (run_in p) (between at at.ca i)) t ends T.united s

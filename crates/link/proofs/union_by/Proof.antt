@@ -8,7 +8,7 @@ use Rattle.groups.specs.Groups.{Edge}
 use Rattle.frame.specs.Structure.{on}
 use Rattle.link.specs.Lines.{UnitedIn, runs_to}
 use Rattle.link.proofs.MovesLaws.{moves_ready, found_by}
-use Rattle.link.proofs.TouchByLaws.{by-earlier, by_pairs, by_none, by_unused}
+use Rattle.link.proofs.TouchByLaws.{by_earlier, by_pairs, by_none, by_unused}
 use Rattle.link.proofs.PartLaws.{in_none}
 use Rattle.link.proofs.union_by.Statement.{statement}
 use Rattle.link.proofs.union_by.Tie as tie
@@ -61,7 +61,7 @@ link-lines-requires c κs =
     ∙ found_by _ _ _ c.before.before.before.before.before.delta.ensures s.args.g.dims s.args.line
     (c.before.before.before.before.nbr-line.ensures s.args.line s.requires.1) in (
       s.requires.0.lines,
-      by-earlier s.args.g.leads s.args.g.dims s.args.g.lines s.requires.0.leading (three s)
+      by_earlier s.args.g.leads s.args.g.dims s.args.g.lines s.requires.0.leading (three s)
           s.args.structure.now s.args.words.now s.args.line s.args.code s.requires.0.lines.within s.requires.2
           c.before.before.m.given.0.0 c.before.before.before.before.before.before.before.if1.true at,
     )

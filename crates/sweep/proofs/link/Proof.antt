@@ -6,7 +6,7 @@ use native.Mathlib.Omega.{arith}
 use borrow.Author.Rules.{rules}
 use Rattle.sweep.proofs.ShiftLaws.{byte_wide, byte_le}
 use Rattle.sweep.proofs.TurnLaws.{lines_kept}
-use Rattle.sweep.proofs.SideLaws.{Side, side-on, side-off, link_idle, link-widened, linked-both, linked-one, link-few}
+use Rattle.sweep.proofs.SideLaws.{Side, side_on, side_off, link_idle, link_widened, linked_both, linked_one, link_few}
 use Rattle.sweep.proofs.link.Statement.{statement}
 use Rattle.sweep.proofs.link.Tie as tie
 use Rattle.sweep.proofs.link.Reads as reads
@@ -36,7 +36,7 @@ same_length c = search rules
 returns-2 : tie.Need-returns-2
 returns-2 c =
     let s = c.before.before.before.before.before.before.before.before.before.before.before in
-    link-widened s.requires s.args.by c.before.before.before.before.before.before.if2.true (byte_wide s.args.by.next)
+    link_widened s.requires s.args.by c.before.before.before.before.before.before.if2.true (byte_wide s.args.by.next)
     (byte_wide s.args.by.prev) c.before.before.sweep.ensures
 
 sweep-shift-requires : tie.Need-sweep-shift-requires
@@ -54,8 +54,8 @@ first : (c : Met)
 first c =
     let s = c.before.before.before.before.before.before in
     elim c.if3.branch [
-      | inl w ↦ rw (w.5, w.6, zero-add) (side-on s.requires s.args.by.prev 0 2 w.0.taken w.2.ensures)
-      | inr w ↦ rw (w.1, w.2) (side-off s.requires s.args.by.prev 0 2 w.0.left)
+      | inl w ↦ rw (w.5, w.6, zero-add) (side_on s.requires s.args.by.prev 0 2 w.0.taken w.2.ensures)
+      | inr w ↦ rw (w.1, w.2) (side_off s.requires s.args.by.prev 0 2 w.0.left)
     ]
 
 sweep-shift-requires-2 : tie.Need-sweep-shift-requires-2
@@ -67,14 +67,14 @@ returns-3 : tie.Need-returns-3
 returns-3 c =
     let s = c.before.before.before.before.before.before.before.before.before.before.before.before in
     let m = c.before.before.before.before.before.before in
-    linked-both s.requires s.args.by m.before.if2.false (first m) c.before.before.before.before.before.if4.true
+    linked_both s.requires s.args.by m.before.if2.false (first m) c.before.before.before.before.before.if4.true
     c.before.before.before.sweep-shift2.ensures
 
 -- no more joins than runs
 add-joins-2 : tie.Need-overflow-add-joins-2
 add-joins-2 c =
     let s = c.before.before.before.before.before.before.before.before.before.before.before.before in
-    record { fits = omega (arith, link-few s.requires s.args.by (returns-3 c)) }
+    record { fits = omega (arith, link_few s.requires s.args.by (returns-3 c)) }
 
 same-length-2 : tie.Need-same-length-2
 same-length-2 c = (returns-3 c).kept.long
@@ -85,7 +85,7 @@ same-length-3 c = (first c.before).kept.long
 returns-4 : tie.Need-returns-4
 returns-4 c =
     let s = c.before.before.before.before.before.before.before in
-    linked-one s.requires s.args.by c.before.before.if2.false (first c.before) c.if4.false
+    linked_one s.requires s.args.by c.before.before.if2.false (first c.before) c.if4.false
 
 pub link_spec : {M : Type 1} → statement M
 link_spec =
