@@ -1,0 +1,34 @@
+-- `block_pass` meets its contract. The loop's invariant: what has been found of the runs before r.
+-- Assumes nothing.
+use Rattle.std.proofs.Common.{◌+◌, ◌-◌, ◌*◌, arith, rules}
+use Rattle.frame.specs.Words.{size_place}
+use Rattle.sound.proofs.TestLaws.{byte_le, bits-le, byte_fits, times_fits}
+use Rattle.sound.proofs.RunPassLaws.{BlockTo, block_none, block_more, wrong_few, roots_few, sizes_small, block_done}
+use Rattle.sound.proofs.block_pass.Goals as goal
+
+pub overflow_add-wrong : goal.overflow_add-wrong
+overflow_add-wrong c = byte_fits (search byte_le) (wrong_few _ _ _ c.loop-r.invariant.so_far) (omega arith)
+
+pub overflow_add-roots : goal.overflow_add-roots
+overflow_add-roots c = byte_fits (search byte_le) (roots_few _ _ _ c.loop-r.invariant.so_far) (omega arith)
+
+pub loop-r-preserved : goal.loop-r-preserved
+loop-r-preserved c =
+    let k = c in
+    let l = k in
+    block_more _ _ _ (λ j. omega (arith, k.shared_slice_known-in-loop-r-4-1.given j)) l.loop-r.invariant (omega arith) (omega arith)
+    c.wrapping_sub_u32.ensures.value c.wrapping_add_u32-cells.ensures.value (omega arith) c.wrapping_sub_u32-last.ensures.value
+
+-- the sum of all, and its first part
+pub overflow_add-sizes-2 : goal.overflow_add-sizes-2
+overflow_add-sizes-2 c =
+    let l = c in
+    let s = l in
+    omega (
+      arith,
+      sizes_small _ _ _ (λ k. omega (arith, l.shared_slice_known-1.given k)) l.loop-r.invariant.so_far
+          (omega (arith, l.loop-r.invariant.upto, s.requires.ready.few)),
+    )
+
+pub overflow_add-sizes : goal.overflow_add-sizes
+overflow_add-sizes c = omega (arith, overflow_add-sizes-2 c)

@@ -1,0 +1,22 @@
+-- `block_pass` meets its contract. The loop's invariant: what has been found of the runs before r.
+-- Assumes nothing.
+use Rattle.std.proofs.Common.{◌+◌, ◌-◌, ◌*◌, arith, rules}
+use Rattle.frame.specs.Words.{size_place}
+use Rattle.sound.proofs.TestLaws.{byte_le, bits-le, byte_fits, times_fits}
+use Rattle.sound.proofs.RunPassLaws.{BlockTo, block_none, block_more, wrong_few, roots_few, sizes_small, block_done}
+use Rattle.sound.proofs.block_pass.Given as goal
+
+abbrev pub invariant-loop-r : goal.invariant-loop-r
+invariant-loop-r l =
+    BlockTo l.lines l.left l.words l.a l.b l.found.sizes (record {
+      wrong = l.wrong;
+      falls = l.falls;
+      roots = l.roots;
+      cells = l.cells;
+      last = l.last;
+      sizes = l.found.sizes + l.low + 65536 * l.high;
+    }) l.low l.high l.r
+
+abbrev pub decreases-loop-r : goal.decreases-loop-r
+decreases-loop-r l =
+    l.b - l.r

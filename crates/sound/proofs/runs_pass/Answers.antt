@@ -1,0 +1,8 @@
+-- `runs_pass` meets its contract. The loop's invariant: what has been found of the runs before r.
+-- Assumes nothing.
+use Rattle.std.proofs.Common.{◌+◌, ◌-◌, ◌<◌, ◌≤◌, inl, inr, arith, rules}
+use Rattle.sound.proofs.RunPassLaws.{RunsTo, runs_none, runs_done}
+use Rattle.sound.proofs.runs_pass.Goals as goal
+
+pub loop-r-init : goal.loop-r-init
+loop-r-init c = record { upto = omega arith; so_far = runs_none _ _ _ (λ k. omega (arith, c.shared_slice_known-1.given k)) }

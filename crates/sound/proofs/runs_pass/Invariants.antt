@@ -1,0 +1,11 @@
+-- `runs_pass` meets its contract. The loop's invariant: what has been found of the runs before r.
+-- Assumes nothing.
+use Rattle.std.proofs.Common.{◌+◌, ◌-◌, ◌<◌, ◌≤◌, inl, inr, arith, rules}
+use Rattle.sound.proofs.RunPassLaws.{RunsTo, runs_none, runs_done}
+use Rattle.sound.proofs.runs_pass.Given as goal
+
+abbrev pub invariant-loop-r : goal.invariant-loop-r
+invariant-loop-r l = RunsTo l.lines l.left l.words l.runs l.found l.r
+
+abbrev pub decreases-loop-r : goal.decreases-loop-r
+decreases-loop-r l = l.runs - l.r

@@ -1,0 +1,27 @@
+-- `words_sound` meets its contract.
+-- Assumes nothing.
+use Rattle.std.proofs.Common.{arith, rules}
+use Rattle.sound.proofs.ReadyLaws.{product_small, runs_ready, lines_ready}
+use Rattle.sound.proofs.RunPassLaws.{roots_few}
+use Rattle.sound.proofs.PassLaws.{start_wrong, lines_wrong, answer}
+use Rattle.sound.proofs.words_sound.Goals as goal
+
+pub returns-then-words-runs : goal.returns-then-words-runs
+returns-then-words-runs c = start_wrong _ _ _ _ _ _ c.most_runs-most.ensures c.if-words-runs.true
+
+pub returns-then-not-lines : goal.returns-then-not-lines
+returns-then-not-lines c =
+    let l = c in
+    lines_wrong _ _ _ _ _ _ l.requires l.lines_pass-lines.ensures c.if-not-lines.true
+
+pub overflow_sub-result : goal.overflow_sub-result
+overflow_sub-result c = roots_few _ _ _ c.runs_pass-found.ensures
+
+pub returns : goal.returns
+returns c =
+    let f = c in
+    let l = f in
+    let m = l in
+    let P = m.requires in
+    answer _ _ _ _ _ _ P l.lines_pass-lines.ensures (lines_ready _ _ _ _ _ m.most_runs-most.ensures P _ l.if-words-runs.false).first
+    f.if-not-lines.false f.runs_pass-found.ensures

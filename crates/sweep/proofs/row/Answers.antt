@@ -1,0 +1,41 @@
+-- `sweep::row` meets its contract. The loop's invariant: run `i` was united with the runs from `j` to before `m` that start before it ends.
+-- Assumes nothing.
+use mathlib.Core.Path.{sym, ◌∙◌}
+use Prim.Native.Nat.{◌-◌}
+use native.Mathlib.Omega.{arith}
+use borrow.Author.Rules.{rules}
+use mir.Syntax.{w64}
+use mir.Val.{to_z}
+use Rattle.frame.specs.Structure.{digit}
+use Rattle.sweep.proofs.SignedLaws.{off_back}
+use Rattle.sweep.proofs.ShiftLaws.{off_le}
+use Rattle.sweep.proofs.TurnLaws.{RowTo, row_begins, row_sized, row_turn, row_done}
+use Rattle.sweep.proofs.row.Goals as goal
+
+pub loop-m-init : goal.loop-m-init
+loop-m-init c = row_begins c.requires.order.upto
+
+pub unite-requires : goal.unite-requires
+unite-requires c = row_sized c.requires.sized
+    c.loop-m.invariant (omega arith)
+
+pub loop-m-preserved : goal.loop-m-preserved
+loop-m-preserved c =
+    let s = c in
+    let l = c.loop-m in
+    row_turn s.requires.sized l.invariant (omega arith)
+    (sym c.starts_before.ensures ∙ c.if-starts_before.true)
+    c.unite.ensures
+
+pub returns-else-starts_before : goal.returns-else-starts_before
+returns-else-starts_before c =
+    let s = c in
+    rw (off_back s.args.lo s.requires.is_lo)
+    at (row_done s.requires.sized c.loop-m.invariant s.requires.order
+    (λ h. sym c.starts_before.ensures ∙ c.if-starts_before.false))
+
+pub returns-after-loop-m : goal.returns-after-loop-m
+returns-after-loop-m c =
+    let s = c in
+    rw (off_back s.args.lo s.requires.is_lo)
+    at (row_done s.requires.sized c.loop-m.invariant s.requires.order (λ h. absurd (omega arith)))
