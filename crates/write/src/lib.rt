@@ -24,7 +24,7 @@ impl LabelU8 {
     pub const MAXV: u64 = 255;
 
     pub fn from_u32(number: u32) -> u8
-        requires* { do ⌜ number ≤ (← ⟦LabelU8::MAXV⟧) ⌝ }
+        requires { number ≤ LabelU8.MAXV }
         ensures { result ≡ write u8 number }
     {
         number as u8
@@ -38,7 +38,7 @@ impl LabelU16 {
     pub const MAXV: u64 = 65535;
 
     pub fn from_u32(number: u32) -> u16
-        requires* { do ⌜ number ≤ (← ⟦LabelU16::MAXV⟧) ⌝ }
+        requires { number ≤ LabelU16.MAXV }
         ensures { result ≡ write u16 number }
     {
         number as u16
@@ -52,7 +52,7 @@ impl LabelU32 {
     pub const MAXV: u64 = 4294967295;
 
     pub fn from_u32(number: u32) -> u32
-        requires* { do ⌜ number ≤ (← ⟦LabelU32::MAXV⟧) ⌝ }
+        requires { number ≤ LabelU32.MAXV }
         ensures { result ≡ write u32 number }
     {
         number
