@@ -1,0 +1,15 @@
+-- `eight_u16` meets its contract. The loop's invariant: the first i of the eight cells are filled.
+-- Assumes nothing.
+use Prim.Native.Nat.{◌+◌, ◌≤◌, ◌-◌}
+use native.Mathlib.Omega.{arith}
+use borrow.Author.Rules.{rules}
+use Rattle.frame.specs.Kinds.{u16}
+use Rattle.write.specs.Steps.{Filled}
+use Rattle.write.proofs.PaintLaws.{filled_none, filled_more, filled_end}
+use Rattle.write.proofs.eight_u16.Given as goal
+
+abbrev pub invariant-loop-i : goal.invariant-loop-i
+invariant-loop-i l = (l.i ≤ 8) × Filled u16 l.x (l.x + l.i) l.v l.initial.out l.out
+
+abbrev pub decreases-loop-i : goal.decreases-loop-i
+decreases-loop-i l = 8 - l.i

@@ -1,0 +1,30 @@
+-- `paint_line_u16` meets its contract. The loop's invariant: the line's runs before r are painted.
+-- Assumes nothing.
+use mathlib.Core.Path.{◌∙◌}
+use Prim.Native.Nat.{◌-◌}
+use native.Mathlib.Omega.{arith}
+use borrow.Author.Rules.{rules}
+use Rattle.frame.specs.Kinds.{u16, largest}
+use Rattle.write.proofs.LineLaws.{PaintedTo, paint_begins, run_words, name_fits, cells_asked, paint_turn, line_painted}
+use Rattle.write.proofs.paint_line_u16.Goals as goal
+
+pub from_u32-name-requires : goal.from_u32-name-requires
+unfolding largest
+from_u32-name-requires c =
+    let i = c in omega (arith, name_fits u16 i.loop-r.invariant i.loop-r-test.true c.word.ensures)
+
+pub paint_run_u16-requires : goal.paint_run_u16-requires
+paint_run_u16-requires c =
+    let w = c in
+    let i = w in
+    cells_asked u16 i.loop-r.invariant i.loop-r-test.true
+    w.word.ensures w.word-start.ensures w.word-end.ensures
+
+pub loop-r-preserved : goal.loop-r-preserved
+loop-r-preserved c =
+    let p = c in
+    let w = p in
+    let i = w in
+    paint_turn u16 i.loop-r.invariant i.loop-r-test.true
+    w.word.ensures w.word-start.ensures w.word-end.ensures
+    p.from_u32-name.ensures p.paint_run_u16.ensures
