@@ -19,14 +19,14 @@ ghost use Rattle.caller.specs.Made.{MadePromise};
 const NO_CALL: u64 = 101;
 
 // The opening's answer, and how many numbers of the answers were written.
-#[derive(Drop)]
+#[derive(Clone, Copy)]
 pub struct Made {
     pub opening: label::OpenAnswer,
     pub places: usize,
 }
 
 // The record after a call, and the next place of the answers.
-#[derive(Drop)]
+#[derive(Clone, Copy)]
 struct Going {
     session: label::Session,
     at: usize,

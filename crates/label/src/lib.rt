@@ -27,7 +27,7 @@ ghost use Rattle.label.specs.Reading.{read_cause_of, sizes_cause_of, ReadPromise
 ghost use Rattle.label.specs.Steps.{sound_cause_of, RecordFound, FeedExtracted, FeedDone, SomeExtracted};
 
 // Shape and structure, then lines fed and the figures, so far. Entries past the rank are 0 after an opening.
-#[derive(Drop)]
+#[derive(Clone, Copy)]
 pub struct Session {
     pub rank: usize,
     pub shape: [usize; 4],
@@ -36,14 +36,14 @@ pub struct Session {
     pub figures: frame::Figures,
 }
 
-#[derive(Drop)]
+#[derive(Clone, Copy)]
 pub enum OpenAnswer {
     Accepted,
     Refused(causes::Cause),
 }
 
 // A feed's and a structure change's: lines fed and the figures, so far.
-#[derive(Drop)]
+#[derive(Clone, Copy)]
 pub enum FeedAnswer {
     Accepted {
         lines: usize,
@@ -53,26 +53,26 @@ pub enum FeedAnswer {
 }
 
 // A reading's, a size call's and a whole frame's.
-#[derive(Drop)]
+#[derive(Clone, Copy)]
 pub enum ReadAnswer {
     Accepted { n: usize, figures: frame::Figures },
     Refused(causes::Cause),
 }
 
 // A refused opening has a blank record beside it.
-#[derive(Drop)]
+#[derive(Clone, Copy)]
 pub struct Opened {
     pub answer: OpenAnswer,
     pub session: Session,
 }
 
-#[derive(Drop)]
+#[derive(Clone, Copy)]
 pub struct Fed {
     pub answer: FeedAnswer,
     pub session: Session,
 }
 
-#[derive(Drop)]
+#[derive(Clone, Copy)]
 pub struct Read {
     pub answer: ReadAnswer,
     pub session: Session,

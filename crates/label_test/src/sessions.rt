@@ -22,7 +22,7 @@ const JOINING: usize = 46;
 
 // What a call gave: its code, 0 to 3 feeds, 4 to 7 readings and the size call, 8 a structure change, and whether all but the words was as
 // it should be.
-#[derive(Drop)]
+#[derive(Clone, Copy)]
 pub struct Turn {
     pub session: Session,
     pub code: usize,

@@ -19,7 +19,7 @@ ghost use Rattle.label.specs.WholeFrame.{block_lines, FramePromise};
 ghost use Rattle.whole.specs.FedFrames.{FeedsFrame, SomeFed, Numbers};
 
 // A frame before its cells are numbered: what its check found, and where it passed the figures of all lines fed.
-#[derive(Drop)]
+#[derive(Clone, Copy)]
 struct FedFrame {
     found: causes::Checked,
     figures: frame::Figures,
