@@ -91,7 +91,7 @@ module _ (g : Geo) (structure ws : List ℕ) (fed last : ℕ) (R : LineReady g s
       (λ e i.
       let T = touches_from_lem ds structure (line_start ws) (stored_run L ws) a m e.from e.to i in
       let x = nbr_earlier ds structure T.line T.lead (omega (arith, T.line_high, R.lines.within, size_is)) T.is_used
-      T.has_nbr_lem in (
+      T.nbr_there in (
         omega (arith, T.r_high, rise (suc T.line) b (omega (arith, T.line_high)) l),
         omega (
           arith,

@@ -98,10 +98,10 @@ module _ (shape structure : List ℕ) (cells : List Bool) where
 
   -- the line of a run
   pub record Located (n r : ℕ) : Type 0 where
-    pub line_of_lem : ℕ
-    pub is_line_lem : line_of_lem < n
-    pub low : S line_of_lem ≤ r
-    pub high : r < S (suc line_of_lem)
+    pub of_line : ℕ
+    pub is_line : of_line < n
+    pub low : S of_line ≤ r
+    pub high : r < S (suc of_line)
 
   pub located : (n r : ℕ) → r < S n → Located n r
   located zero r h = absurd (omega (arith, start_zero))
@@ -110,8 +110,8 @@ module _ (shape structure : List ℕ) (cells : List Bool) where
       go : (b : Bool) → ltb r (S n) ≡ b → (r < S n → Located n r) → Located (suc n) r
       go true t before =
           let k = before (ltb-true _ _ t) in
-          record { line_of_lem = k.line_of_lem; is_line_lem = omega (arith, k.is_line_lem); low = k.low; high = k.high }
-      go false t before = record { line_of_lem = n; is_line_lem = le_refl (suc n); low = ltb-false _ _ t; high = h }
+          record { of_line = k.of_line; is_line = omega (arith, k.is_line); low = k.low; high = k.high }
+      go false t before = record { of_line = n; is_line = le_refl (suc n); low = ltb-false _ _ t; high = h }
 
   -- ---- a line's cells
 

@@ -140,7 +140,7 @@ module _ (shape structure : List ℕ) (cells : List Bool) (n : ℕ) (F : Fits sh
           is_lead = omega (arith, twice_mid (length ds));
           is_used = unfold used in and_true _ _ (backward_mid (length ds) k (omega (arith, twice_mid (length ds))) ∙ lt-ltb k
               (mid (length ds)) h) (rw zeroth at (three_on (λ t. on structure (3 * k + t)) (L.code % 3) (omega arith) byte));
-          has_nbr_lem = found.0;
+          nbr_there = found.0;
           r_low = P.low;
           r_high = P.high;
           s_low = subst (λ (m : ℕ). S m ≤ of q) (sym found.1) Q.low;
@@ -206,7 +206,7 @@ module _ (shape structure : List ℕ) (cells : List Bool) (n : ℕ) (F : Fits sh
       hl = omega (arith, T.line_high, F.below)
 
       moves : (m < size ds) × Moved (coords ds ℓ) (offset (length ds) k) (coords ds m)
-      moves = nbr_moved ds (offset (length ds) k) ℓ hl (length_offset (length ds) k) T.has_nbr_lem
+      moves = nbr_moved ds (offset (length ds) k) ℓ hl (length_offset (length ds) k) T.nbr_there
 
       zeroth : 3 * k ≡ 3 * k + 0
       zeroth = omega arith

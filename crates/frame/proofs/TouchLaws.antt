@@ -49,7 +49,7 @@ module _ (ds structure : List ℕ) (S : ℕ → ℕ) (R : ℕ → Run) where
     pub lead : ℕ
     pub is_lead : lead < 3 ^ length ds
     pub is_used : used structure (length ds) lead ≡ true
-    pub has_nbr_lem : has_nbr ds (offset (length ds) lead) line ≡ true
+    pub nbr_there : has_nbr ds (offset (length ds) lead) line ≡ true
     pub r_low : S line ≤ r
     pub r_high : r < S (suc line)
     pub s_low : S (nbr_of line lead) ≤ s
@@ -91,7 +91,7 @@ module _ (ds structure : List ℕ) (S : ℕ → ℕ) (R : ℕ → Run) where
         lead = y.at;
         is_lead = omega (arith, y.high);
         is_used = and_left (used structure (length ds) y.at) (has_nbr ds (offset (length ds) y.at) x.at) z.0;
-        has_nbr_lem = and_right (used structure (length ds) y.at) (has_nbr ds (offset (length ds) y.at) x.at) z.0;
+        nbr_there = and_right (used structure (length ds) y.at) (has_nbr ds (offset (length ds) y.at) x.at) z.0;
         r_low = p.from_low;
         r_high = omega (arith, p.from_low, p.from_high);
         s_low = p.to_low;
@@ -106,7 +106,7 @@ module _ (ds structure : List ℕ) (S : ℕ → ℕ) (R : ℕ → Run) where
       let high : T.lead < 0 + 3 ^ length ds = omega (arith, T.is_lead) in
       from_gather (touches_of ds structure S R) a n T.line T.line_low T.line_high
       (from_gather (touches_by ds structure S R T.line) 0 (3 ^ length ds) T.lead low high
-      (from_by T.line T.lead _ T.is_used T.has_nbr_lem
+      (from_by T.line T.lead _ T.is_used T.nbr_there
       (record {
         from_low = T.r_low;
         from_high = omega (arith, T.r_low, T.r_high);
@@ -132,7 +132,7 @@ module _ (ds structure : List ℕ) (S : ℕ → ℕ) (R : ℕ → Run) where
     -- a touch leads to a run before, and both are of the lines so far
     pub touch_below : (a n r s : ℕ) → a + n ≤ size ds → Touch a n r s → (r < S (a + n)) × (s < r)
     touch_below a n r s h T =
-        let b = nbr_earlier ds structure T.line T.lead (omega (arith, T.line_high)) T.is_used T.has_nbr_lem in (
+        let b = nbr_earlier ds structure T.line T.lead (omega (arith, T.line_high)) T.is_used T.nbr_there in (
           omega (arith, T.r_high, rise (suc T.line) (a + n) T.line_high),
           omega (arith, T.r_low, T.s_high, rise (suc (nbr_of T.line T.lead)) T.line b),
         )

@@ -163,7 +163,7 @@ module _ (kind : Number) (shape structure ws : List ℕ) (cells : List Bool) (ou
           answer = fed (lines shape) s₁.figures;
           session = s₁;
           fed_words = ws₁;
-          fed_all_lem = subst (λ (n : ℕ). FeedPromise s vs (lines shape) cells (fed n s₁.figures) s₁ ws₁) (zero-add (lines shape))
+          lines_fed = subst (λ (n : ℕ). FeedPromise s vs (lines shape) cells (fed n s₁.figures) s₁ ws₁) (zero-add (lines shape))
               (accepted_promise s vs (lines shape) cells G ws₁ W);
           names = R.words ∙ ap (λ (c : ℕ). kept c ws₁ (with_names s₁ ws₁)) cause_late;
         };

@@ -191,7 +191,7 @@ frame_met kind shape structure ws cells out = record {
     answer = after.said;
     session = after.session;
     fed_words = after.words;
-    fed_all_lem = unfold frame_feed in feed_met
+    lines_fed = unfold frame_feed in feed_met
         (open_record shape structure) (open_words ws) (lines shape) cells;
     names = kept_new ws words early e;
   };

@@ -170,10 +170,10 @@ module _ (kind : Number) (shape structure ws : List ℕ) (cells : List Bool) (ou
 
     words : (vs : List ℕ) → (F : FrameWords kind shape structure ws cells out vs)
         → FeedWords s (open_words ws) (lines shape) cells F.fed_words
-    words vs F = F.fed_all_lem.accepted fed_accepted
+    words vs F = F.lines_fed.accepted fed_accepted
 
     session : (vs : List ℕ) → (F : FrameWords kind shape structure ws cells out vs) → F.session ≡ s₁
-    session vs F = F.fed_all_lem.session ∙ kept_new s s₁ (feed_cause_of s (open_words ws) (lines shape) cells) fed_accepted
+    session vs F = F.lines_fed.session ∙ kept_new s s₁ (feed_cause_of s (open_words ws) (lines shape) cells) fed_accepted
 
     named : (vs : List ℕ) → (F : FrameWords kind shape structure ws cells out vs)
         → vs ≡ kept late F.fed_words (with_names s₁ F.fed_words)

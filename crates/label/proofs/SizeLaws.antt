@@ -71,10 +71,10 @@ module _ (s : Session) (ws : List ℕ) (S : Sound s ws) where
     of_line =
         let P = located (shape_of s) (structure_of s) cells s.fed r (rw (← H.runs_are) h) in
         record {
-          ℓ = P.Line-of;
-          is_fed = P.is_line_lem;
-          low = rw (H.starts P.Line-of (omega (arith, P.is_line_lem))) P.low;
-          high = rw (H.starts (suc P.Line-of) P.is_line_lem) P.high;
+          ℓ = P.of_line;
+          is_fed = P.is_line;
+          low = rw (H.starts P.of_line (omega (arith, P.is_line))) P.low;
+          high = rw (H.starts (suc P.of_line) P.is_line) P.high;
         }
 
     -- a line that starts by r is not after one that ends past it

@@ -164,17 +164,17 @@ module _ (s : Session) (ws : List ℕ) (K : Sound s ws) where
   listed : (r : ℕ) → r < s.figures.runs → stored r ≡ run r
   listed r h =
       let P = located dims bytes cells s.fed r (subst (λ (n : ℕ). r < n) runs_are h) in
-      let ℓ = P.Line-of in
+      let ℓ = P.of_line in
       let i : ℕ = r - S ℓ in
       let q : r ≡ S ℓ + i = omega (arith, P.low) in
       let k : i < length (R ℓ) = omega (arith, P.low, P.high, start_suc dims bytes cells ℓ) in
-      let e : line_start ws ℓ + i ≡ r = omega (arith, P.low, starts_are ℓ (omega (arith, P.is_line_lem))) in
-      let l : i < line_start ws (suc ℓ) - line_start ws ℓ = omega (arith, ap length (line_runs_lem ℓ P.is_line_lem), held_length ℓ P.is_line_lem) in
+      let e : line_start ws ℓ + i ≡ r = omega (arith, P.low, starts_are ℓ (omega (arith, P.is_line))) in
+      let l : i < line_start ws (suc ℓ) - line_start ws ℓ = omega (arith, ap length (line_runs_lem ℓ P.is_line), held_length ℓ P.is_line) in
       sym
       (ap run q
-      ∙ run_at dims bytes cells ℓ i (le_trans P.is_line_lem K.shape.within) k
-      ∙ ap (λ (rs : List Run). get_or rs i none) (line_runs_lem ℓ P.is_line_lem)
-      ∙ held_at ℓ P.is_line_lem i l
+      ∙ run_at dims bytes cells ℓ i (le_trans P.is_line K.shape.within) k
+      ∙ ap (λ (rs : List Run). get_or rs i none) (line_runs_lem ℓ P.is_line)
+      ∙ held_at ℓ P.is_line i l
       ∙ ap stored e)
 
   pub sound_stores : Stores s ws (cells_of s ws)

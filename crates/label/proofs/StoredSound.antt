@@ -74,17 +74,17 @@ module _ (s : Session) (ws : List ℕ) (cells : List Bool) (H : Stores s ws cell
 
     run_inside : Within (width dims) (stored_run (lines_of s) ws r)
     run_inside = subst (Within (width dims)) (sym (H.listed r h))
-        (run_within dims bytes cells place.line_of_lem r (in_frame place.line_of_lem place.is_line_lem) place.low place.high)
+        (run_within dims bytes cells place.of_line r (in_frame place.of_line place.is_line) place.low place.high)
 
     run_short : left ≡ false → Short (stored_run (lines_of s) ws r)
     unfolding frame_runs
     run_short e =
-        let ℓ = place.line_of_lem in
+        let ℓ = place.of_line in
         let i : ℕ = r - S ℓ in
         let k : i < length (frame_runs dims bytes cells ℓ) = omega (arith, place.low, place.high, start_suc dims bytes cells ℓ) in
         let n : r ≡ S ℓ + i = omega (arith, place.low) in
         let q : stored_run (lines_of s) ws r ≡ get_or (frame_runs dims bytes cells ℓ) i none = H.listed r h ∙ ap run n
-        ∙ run_at dims bytes cells ℓ i (in_frame ℓ place.is_line_lem) k in
+        ∙ run_at dims bytes cells ℓ i (in_frame ℓ place.is_line) k in
         let o : Short (get_or (line_runs left (line_of (width dims) cells ℓ)) i none) = rw e (line_short (line_of (width dims) cells ℓ) i) in
         subst Short (sym q) o
 

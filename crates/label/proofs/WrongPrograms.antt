@@ -398,11 +398,11 @@ unfolding computed
 whole_stores a ws out P e =
     let F = P.accepted refl in
     let v = F.fed_words in
-    let s : F.session ≡ held 3 5 4 7 = F.fed_all_lem.session in
+    let s : F.session ≡ held 3 5 4 7 = F.lines_fed.session in
     let n : ws ≡ with_names (held 3 5 4 7) v = rw s at F.names in
     let names : word 1 (with_names (held 3 5 4 7) v) ≡ word 1 v = set_all_other (name_place 3) (number_in (parent_of 3 v)) 5 v 1
     (λ r h q. omega arith) in
-    let z : word 1 v ≡ 2 = (F.fed_all_lem.accepted refl).others 1 (λ r h. (omega arith, omega arith)) in
+    let z : word 1 v ≡ 2 = (F.lines_fed.accepted refl).others 1 (λ r h. (omega arith, omega arith)) in
     omega (arith, ap (word 1) n)
 
 whole_names : (a : Answer) (ws out : List ℕ) → Labels junk a ws out → word 7 ws ≡ 7 → ⊥
@@ -410,10 +410,10 @@ unfolding computed
 whole_names a ws out P e =
     let F = P.accepted refl in
     let v = F.fed_words in
-    let s : F.session ≡ held 3 5 4 7 = F.fed_all_lem.session in
+    let s : F.session ≡ held 3 5 4 7 = F.lines_fed.session in
     let n : ws ≡ with_names (held 3 5 4 7) v = rw s at F.names in
-    let long : length v ≡ 34 = (F.fed_all_lem.accepted refl).long in
-    let low : word 6 v ≤ 0 = (F.fed_all_lem.accepted refl).parents 0 (omega arith) in
+    let long : length v ≡ 34 = (F.lines_fed.accepted refl).long in
+    let low : word 6 v ≤ 0 = (F.lines_fed.accepted refl).parents 0 (omega arith) in
     let root : word 6 v ≡ 0 = omega arith in
     let names : word 7 (with_names (held 3 5 4 7) v) ≡ number_in (parent_of 3 v) 0 = set_all_at (name_place 3) (number_in (parent_of 3 v)) 5 v
     (λ i j a b q. omega arith) 0 (omega arith) (omega arith) in

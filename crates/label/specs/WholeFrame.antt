@@ -56,7 +56,7 @@ module _ (kind : Number) (shape structure ws : List ℕ) (cells : List Bool) (ou
     pub answer : Answer
     pub session : Session
     pub fed_words : List ℕ
-    pub fed_all_lem : FeedPromise (open_record shape structure) (open_words ws) (lines shape) cells answer session fed_words
+    pub lines_fed : FeedPromise (open_record shape structure) (open_words ws) (lines shape) cells answer session fed_words
     pub names : ws' ≡ kept frame_cause_of fed_words (with_names session fed_words)
 
   -- the answer, and the words and the output afterwards

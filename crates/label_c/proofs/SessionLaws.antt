@@ -63,7 +63,7 @@ made_next old {s} {t} r c {said} a R z promised is w formed =
 
 formed_fed : (r ws : List ℕ) (k : ℕ) (cells : List Bool) → RecordReady r → Formed (feed_record (record_of r) ws k cells)
 unfolding feed_record record_of
-formed_fed r ws k cells R = record { shape = refl; structure = (structure_ready r R).long; are_bytes_lem = R.are_bytes_lem }
+formed_fed r ws k cells R = record { shape = refl; structure = (structure_ready r R).long; are_bytes = R.are_bytes }
 
 pub fed_next : {r ws : List ℕ} {k : ℕ} {cells : List Bool} {answer r' ws' answer' : List ℕ} → FeedCall r ws k cells answer 0 r' ws' answer'
     → Next (feed_record (record_of r) ws k cells) r'
@@ -110,7 +110,7 @@ open_next {shape} {structure} {ws} {r} b O =
     (record {
       shape = padded_long 4 shape short.0;
       structure = padded_long 81 structure short.1;
-      are_bytes_lem = bytes_padded structure
+      are_bytes = bytes_padded structure
           (81 - length structure) b;
     })
     (P.session ∙ kept_new blank (open_record shape structure) _ (sym P.said)) O.record_is
@@ -124,7 +124,7 @@ formed_widened r ws structure b h =
     record {
       shape = refl;
       structure = padded_long 81 structure h;
-      are_bytes_lem = bytes_padded structure (81 - length structure) b;
+      are_bytes = bytes_padded structure (81 - length structure) b;
     }
 
 pub widened_next : {r ws structure answer r' ws' answer' : List ℕ} → bytes structure ≡ true

@@ -42,7 +42,7 @@ module _ (r : List ℕ) where
       go true b t ea et z = absurd (omega arith)
       go false true t ea et z = absurd (omega arith)
       go false false false ea et z = absurd (omega arith)
-      go false false true ea et z = record { long = ltb-false (length r) record_words ea; are_bytes_lem = et }
+      go false false true ea et z = record { long = ltb-false (length r) record_words ea; are_bytes = et }
 
 pub frame_short : (n : ℕ) → n < least_answer → frame_early n ≡ 100
 unfolding frame_early

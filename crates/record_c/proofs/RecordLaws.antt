@@ -55,7 +55,7 @@ unfolding padded
 copied s l i e a b n = front_done 81 s l i e (omega arith) ∙ rw n (append-nil s)
 
 pub structure_ready : (r : List ℕ) → RecordReady r → StructureReady (structure_words r)
-structure_ready r R = record { long = length-take-le 81 (drop 5 r) (omega (arith, length-drop 5 r, R.long)); are_bytes_lem = R.are_bytes_lem }
+structure_ready r R = record { long = length-take-le 81 (drop 5 r) (omega (arith, length-drop 5 r, R.long)); are_bytes = R.are_bytes }
 
 -- ---- a record that was written is read back
 
@@ -83,7 +83,7 @@ module _ (rank fed : ℕ) (f : Figures) (structure t : List ℕ) (n : length str
 pub record Formed (s : Session) : Type 0 where
   pub shape : length s.shape ≡ 4
   pub structure : length s.structure ≡ 81
-  pub are_bytes_lem : bytes s.structure ≡ true
+  pub are_bytes : bytes s.structure ≡ true
 
 module _ (s : Session) (F : Formed s) (r : List ℕ) (long : record_words ≤ length r) where
   abbrev tail : List ℕ
@@ -108,5 +108,5 @@ module _ (s : Session) (F : Formed s) (r : List ℕ) (long : record_words ≤ le
   written_ready =
       record {
         long = omega (arith, length_overlay (words_of s) r);
-        are_bytes_lem = ap (λ (x : Session). bytes x.structure) written_read ∙ F.are_bytes_lem;
+        are_bytes = ap (λ (x : Session). bytes x.structure) written_read ∙ F.are_bytes;
       }

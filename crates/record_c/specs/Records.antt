@@ -39,9 +39,9 @@ bytes (x ∷ xs) = ltb x 256 && bytes xs
 -- words that are the bytes of a structure
 pub record StructureReady (l : List ℕ) : Type 0 where
   pub long : length l ≡ 81
-  pub are_bytes_lem : bytes l ≡ true
+  pub are_bytes : bytes l ≡ true
 
 -- words that hold a record, sound or not
 pub record RecordReady (r : List ℕ) : Type 0 where
   pub long : record_words ≤ length r
-  pub are_bytes_lem : bytes (structure_words r) ≡ true
+  pub are_bytes : bytes (structure_words r) ≡ true

@@ -32,13 +32,13 @@ returns-3 : tie.Need-returns-3
 returns-3 c =
     let s = c.before.before.before.before.before.before.args in
     sym (early_by_bytes s.rec.now s.answer (omega arith) (omega arith) false
-    (sym c.before.are_bytes_lem.ensures ∙ not-true _ c.if3.true))
+    (sym c.before.are_bytes.ensures ∙ not-true _ c.if3.true))
 
 returns-4 : tie.Need-returns-4
 returns-4 c =
     let s = c.before.before.before.before.before.before.args in
     sym (early_by_bytes s.rec.now s.answer (omega arith) (omega arith) true
-    (sym c.before.are_bytes_lem.ensures ∙ not-false _ c.if3.false))
+    (sym c.before.are_bytes.ensures ∙ not-false _ c.if3.false))
 
 pub record_early_spec : {M : Type 1} → statement M
 record_early_spec =

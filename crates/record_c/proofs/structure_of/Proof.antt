@@ -28,7 +28,7 @@ shared-slice-read-out c = search rules
 cast-out : tie.Need-overflow-cast-out invariant-loop decreases-loop
 cast-out c = omega (
   arith,
-  byte_at c.before.before.before.args.words.now c.before.before.before.requires.are_bytes_lem c.before.before.loop.i,
+  byte_at c.before.before.before.args.words.now c.before.before.before.requires.are_bytes c.before.before.loop.i,
 )
 
 array-write-out : tie.Need-array-write-out invariant-loop decreases-loop
