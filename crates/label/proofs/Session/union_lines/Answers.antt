@@ -1,0 +1,45 @@
+-- `union_lines` meets its contract: the extracted lines are united, and the record has the new figures.
+-- Assumes nothing.
+use mathlib.Core.Path.{◌≡◌}
+use borrow.Author.Rules.{rules}
+use lib.ListN.{length}
+use native.Mathlib.Omega.{arith}
+use Rattle.label.proofs.RecordGeometry.{sound_bytes}
+use Rattle.label.proofs.FeedBlockLaws.{feed_ready, feed_lines_fit, feed_figures_fit, feed_done}
+use Rattle.label.proofs.Session.union_lines.Goals as goal
+
+pub union_block-joins-requires : goal.union_block-joins-requires
+union_block-joins-requires c =
+    let structure-long : length c.args.self.structure ≡ 81 = search rules in
+    let s = c in
+    let p = s.requires in
+    let X = p.extracted in
+    let long = sound_bytes s.args.self p.words (structure-long) X.given.is_sound in
+    feed_ready s.args.self p.words s.args.k p.cells s.args.g _ s.args.new X long
+
+pub plus-figures-requires : goal.plus-figures-requires
+plus-figures-requires c =
+    let structure-long : length c.args.self.structure ≡ 81 = search rules in
+    let s = c in
+    let p = s.requires in
+    let X = p.extracted in
+    let long = sound_bytes s.args.self p.words (structure-long) X.given.is_sound in
+    let u = c.union_block-joins in
+    feed_figures_fit s.args.self p.words s.args.k p.cells s.args.g _ s.args.new X long
+    u.new.words u.result u.ensures
+
+pub overflow_add-s : goal.overflow_add-s
+overflow_add-s c =
+    let s = c in
+    let p = s.requires in
+    record { fits = omega (arith, feed_lines_fit s.args.self p.words s.args.k p.cells p.extracted.given) }
+
+pub returns : goal.returns
+returns c =
+    let structure-long : length c.args.self.structure ≡ 81 = search rules in
+    let s = c in
+    let u = c.union_block-joins in
+    λ ws cells X.
+    feed_done s.args.self ws s.args.k cells s.args.g _ s.args.new X
+    (sound_bytes s.args.self ws (structure-long) X.given.is_sound) u.new.words u.result u.ensures
+    c.plus-figures.ensures
