@@ -38,7 +38,9 @@ pub calls_met : (s : Session) (ws : List ℕ) (cs : List Call)
     → Trace s ws cs (do_calls s ws cs).answers (do_calls s ws cs).session (do_calls s ws cs).words
 unfolding do_calls
 calls_met s ws [] = stop
-calls_met s ws (feed k cells ∷ cs) = by_feed {cells = cells} (feed_met s ws k (flags cells)) (calls_met _ _ cs)
-calls_met s ws (read kind out ∷ cs) = by_read (read_met kind s ws out) (calls_met _ _ cs)
-calls_met s ws (sizes out ∷ cs) = by_sizes (sizes_met s ws out) (calls_met _ _ cs)
-calls_met s ws (widen structure ∷ cs) = by_widen (widen_met s ws structure) (calls_met _ _ cs)
+calls_met s ws (feed k cells ∷ cs) = by_feed {cells = cells} (feed_met s ws k (flags cells))
+    (calls_met (do_feed s ws k (flags cells)).session (do_feed s ws k (flags cells)).words cs)
+calls_met s ws (read kind out ∷ cs) = by_read (read_met kind s ws out) (calls_met s (do_read kind s ws out).words cs)
+calls_met s ws (sizes out ∷ cs) = by_sizes (sizes_met s ws out) (calls_met s (do_sizes s ws out).words cs)
+calls_met s ws (widen structure ∷ cs) = by_widen (widen_met s ws structure)
+    (calls_met (do_widen s ws structure).session (do_widen s ws structure).words cs)

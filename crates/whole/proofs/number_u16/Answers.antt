@@ -1,0 +1,31 @@
+-- `number_u16` meets its contract: a refusal is passed on, n above the kind's largest is refused, and else the numbers are a reading's.
+-- Assumes nothing.
+use mathlib.Core.Path.{◌≡◌, refl}
+use Prim.Native.Nat.{ℕ}
+use borrow.Author.Rules.{rules}
+use Rattle.frame.specs.Kinds.{u16, largest}
+use Rattle.whole.proofs.NumberingLaws.{number_refused, number_joins, number_ready, number_ten, number_done}
+use Rattle.whole.proofs.number_u16.Goals as goal
+
+-- MAXV
+most : ◌≡◌ {A = ℕ} 65535 (largest u16)
+unfolding largest
+most = refl
+
+pub overflow_sub-n : goal.overflow_sub-n
+overflow_sub-n c = let t = c in number_joins c.in_default.is t.requires
+
+pub returns-then-n-gt-MAXV : goal.returns-then-n-gt-MAXV
+returns-then-n-gt-MAXV c = number_ten c.in_default.is u16 (rw (← most) c.if-n-gt-MAXV.true)
+
+pub write_block_u16-requires : goal.write_block_u16-requires
+write_block_u16-requires c =
+    let i = c in
+    let t = i in
+    number_ready c.in_default.is t.requires u16 (rw (← most) i.if-n-gt-MAXV.false)
+
+pub returns : goal.returns
+returns c =
+    let x = c in
+    let i = x in
+    number_done c.in_default.is u16 (rw (← most) i.if-n-gt-MAXV.false) x.write_block_u16.ensures

@@ -1,0 +1,28 @@
+-- `number_u32` meets its contract: a refusal is passed on, n above the kind's largest is refused, and else the numbers are a reading's.
+-- Assumes nothing.
+use mathlib.Core.Path.{◌≡◌, refl}
+use Prim.Native.Nat.{ℕ}
+use borrow.Author.Rules.{rules}
+use Rattle.frame.specs.Kinds.{u32, largest}
+use Rattle.whole.proofs.NumberingLaws.{number_refused, number_joins, number_ready, number_ten, number_done}
+use Rattle.whole.proofs.number_u32.Goals as goal
+
+-- MAXV
+most : ◌≡◌ {A = ℕ} 4294967295 (largest u32)
+unfolding largest
+most = refl
+
+pub overflow_sub-n : goal.overflow_sub-n
+overflow_sub-n c = let t = c in number_joins c.in_default.is t.requires
+
+pub write_block_u32-requires : goal.write_block_u32-requires
+write_block_u32-requires c =
+    let i = c in
+    let t = i in
+    number_ready c.in_default.is t.requires u32 (rw (← most) i.if-n-gt-MAXV.false)
+
+pub returns : goal.returns
+returns c =
+    let x = c in
+    let i = x in
+    number_done c.in_default.is u32 (rw (← most) i.if-n-gt-MAXV.false) x.write_block_u32.ensures
