@@ -18,7 +18,7 @@ use Rattle.label.specs.Reading.{ReadPromise, SizesPromise}
 use Rattle.calls.specs.Trace.{Trace, by_feed, by_read, by_sizes, by_widen}
 use Rattle.caller.specs.declared.Four.{Four}
 use Rattle.caller.specs.CallList.{Lent, Entry, call, no_call, feed_entry, held, read_entry, sizes_entry, widen_entry, entry_of, calls_of}
-use Rattle.caller.specs.CallList.{no_call, eight_numbers, answer_numbers, numbers_of, woven}
+use Rattle.caller.specs.CallList.{no_call_number, eight_numbers, answer_numbers, numbers_of, woven}
 use Rattle.frame.specs.Overlay.{overlay, Adds}
 use Rattle.caller.specs.Rooms.{Rooms, leaves, rooms_after}
 use Rattle.caller.specs.Making.{Standing, Steps, FeedOf, Feeds}
@@ -46,7 +46,7 @@ step_call {a = a} by A es end R = record {
 }
 
 pub step_none : {s : Session} {ws : List ℕ} {rooms : Rooms} {buf buf' : List ℕ} {i j : ℕ}
-    → Adds (eight_numbers no_call 0 zero_figures) buf i buf' j
+    → Adds (eight_numbers no_call_number 0 zero_figures) buf i buf' j
     → Steps no_call (stand s ws rooms buf i) (stand s ws rooms buf' j)
 unfolding calls_of woven rooms_after
 step_none A es end R = record { answered = R.answered; trace = R.trace; rooms = R.rooms; adds = adds_then A R.adds }

@@ -75,8 +75,8 @@ calls_of (no_call ∷ es) = calls_of es
 -- ---- answers
 
 -- the number of what is no call: document 01 and document 02 end at 19, and the numbers from 100 on are ours
-abbrev pub no_call : ℕ
-no_call = 101
+abbrev pub no_call_number : ℕ
+no_call_number = 101
 
 -- eight numbers for what is answered: 0 or a cause, lines fed or n, the figures, and zeros for the rest
 abbrev pub eight_numbers : ℕ → ℕ → Figures → List ℕ
@@ -99,6 +99,6 @@ numbers_of a = answer_numbers a.said ++ output_numbers a.written
 -- the answers of the calls, with those of what is no call in their places. Each call has its answer
 unfoldable pub woven : List Entry → List Answered → List ℕ
 woven [] az = []
-woven (no_call ∷ es) az = eight_numbers no_call 0 zero_figures ++ woven es az
+woven (no_call ∷ es) az = eight_numbers no_call_number 0 zero_figures ++ woven es az
 woven (call c ∷ es) [] = []
 woven (call c ∷ es) (a ∷ az) = numbers_of a ++ woven es az

@@ -1,7 +1,7 @@
 -- The rooms of the outputs, and what they hold after each. What is written to the answers is frame's Overlay.
 -- Assumes nothing.
 use Rattle.std.specs.Prelude.{List, [], ◌∷◌, ℕ, ℤ, Float, length}
-use Rattle.std.specs.Borrow.{Bor}
+use denote.Ref.{Bor, MutBor}
 use denote.Triple.Both.{Both}
 use Rattle.frame.specs.Overlay.{overlay}
 use Rattle.frame.specs.Kinds.{u8, u16, u32}
@@ -45,14 +45,17 @@ rooms_after (a ∷ az) r = rooms_after az (leaves a.written r)
 
 -- ---- of the slices that a function was lent, as its contract names them
 
--- a slice at entry and at exit
+-- a slice at entry and at exit, to be read or to be written
 abbrev pub Slice : Type 0 → Type 0
 Slice A = Both (Bor (List A)) (Bor (List A))
 
-abbrev pub rooms_at_entry : Slice ℕ → Slice ℕ → Slice ℕ → Rooms
+abbrev pub MutSlice : Type 0 → Type 0
+MutSlice A = Both (MutBor (List A)) (MutBor (List A))
+
+abbrev pub rooms_at_entry : MutSlice ℕ → MutSlice ℕ → MutSlice ℕ → Rooms
 rooms_at_entry out8 out16 out32 = rooms_of out8.entry.now out16.entry.now out32.entry.now
 
-abbrev pub rooms_at_exit : Slice ℕ → Slice ℕ → Slice ℕ → Rooms
+abbrev pub rooms_at_exit : MutSlice ℕ → MutSlice ℕ → MutSlice ℕ → Rooms
 rooms_at_exit out8 out16 out32 = rooms_of out8.exit.now out16.exit.now out32.exit.now
 
 abbrev pub lent_in : Slice ℕ → Slice ℕ → Slice ℤ → Slice Float → Rooms → Lent

@@ -2,7 +2,7 @@
 -- to the words and the output is the promise of the call itself, which stands here by its name.
 -- Assumes nothing.
 use Rattle.std.specs.Prelude.{◌≡◌, Bool, List, map, ℕ, ◌<◌, length}
-use Rattle.std.specs.Borrow.{Bor}
+use denote.Ref.{Bor, MutBor}
 use denote.Triple.Both.{Both}
 use Rattle.frame.specs.Kinds.{Number, Value}
 use Rattle.frame.specs.Plain.{Answer, refused}
@@ -69,39 +69,42 @@ pub record FrameCall (kind : Number) (shape structure ws : List ℕ) (cells : Li
 
 -- ---- the same of the slices that a function was lent, as its contract names them
 
--- a slice at entry and at exit
+-- a slice at entry and at exit, to be read or to be written
 abbrev Slice : Type 0 → Type 0
 Slice A = Both (Bor (List A)) (Bor (List A))
 
-abbrev pub OpenLent : Slice ℕ → Slice ℕ → Slice ℕ → Slice ℕ → ℕ → Type 0
+abbrev MutSlice : Type 0 → Type 0
+MutSlice A = Both (MutBor (List A)) (MutBor (List A))
+
+abbrev pub OpenLent : Slice ℕ → Slice ℕ → MutSlice ℕ → MutSlice ℕ → ℕ → Type 0
 OpenLent shape structure words rec number =
     OpenCall shape.entry.now structure.entry.now words.entry.now rec.entry.now
     number words.exit.now rec.exit.now
 
 -- `nonzero` says which cells are on, for the kind of cell
-abbrev pub FeedLent : {A : Type 0} → (A → Bool) → Slice ℕ → Slice ℕ → ℕ → Slice A → Slice ℕ → ℕ → Type 0
+abbrev pub FeedLent : {A : Type 0} → (A → Bool) → MutSlice ℕ → MutSlice ℕ → ℕ → Slice A → MutSlice ℕ → ℕ → Type 0
 FeedLent nonzero rec words k cells answer number =
     FeedCall rec.entry.now words.entry.now k (map nonzero cells.entry.now) answer.entry.now
     number rec.exit.now words.exit.now answer.exit.now
 
-abbrev pub WidenLent : Slice ℕ → Slice ℕ → Slice ℕ → Slice ℕ → ℕ → Type 0
+abbrev pub WidenLent : MutSlice ℕ → MutSlice ℕ → Slice ℕ → MutSlice ℕ → ℕ → Type 0
 WidenLent rec words structure answer number =
     WidenCall rec.entry.now words.entry.now structure.entry.now answer.entry.now
     number rec.exit.now words.exit.now answer.exit.now
 
-abbrev pub ReadLent : (kind : Number) → Slice ℕ → Slice ℕ → Slice (Value kind) → Slice ℕ → ℕ → Type 0
+abbrev pub ReadLent : (kind : Number) → Slice ℕ → MutSlice ℕ → MutSlice (Value kind) → MutSlice ℕ → ℕ → Type 0
 ReadLent kind rec words out answer number =
     ReadCall kind rec.entry.now words.entry.now out.entry.now answer.entry.now
     number words.exit.now out.exit.now answer.exit.now
 
-abbrev pub SizesLent : Slice ℕ → Slice ℕ → Slice ℕ → Slice ℕ → ℕ → Type 0
+abbrev pub SizesLent : Slice ℕ → MutSlice ℕ → MutSlice ℕ → MutSlice ℕ → ℕ → Type 0
 SizesLent rec words sizes answer number =
     SizesCall rec.entry.now words.entry.now sizes.entry.now answer.entry.now
     number words.exit.now sizes.exit.now answer.exit.now
 
 abbrev pub FrameLent :
     (kind : Number) {A : Type 0} → (A → Bool)
-    → Slice ℕ → Slice ℕ → Slice ℕ → Slice A → Slice (Value kind) → Slice ℕ → ℕ → Type 0
+    → Slice ℕ → Slice ℕ → MutSlice ℕ → Slice A → MutSlice (Value kind) → MutSlice ℕ → ℕ → Type 0
 FrameLent kind nonzero shape structure words cells out answer number =
     FrameCall kind shape.entry.now structure.entry.now words.entry.now (map nonzero cells.entry.now)
     out.entry.now answer.entry.now
