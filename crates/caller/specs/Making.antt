@@ -10,7 +10,7 @@ use Rattle.caller.specs.declared.Going.{Going}
 use Rattle.caller.specs.declared.Four.{Four}
 use Rattle.caller.specs.CallList.{Lent, Entry, call, entry_of, calls_of, woven}
 use Rattle.frame.specs.Overlay.{Adds}
-use Rattle.caller.specs.Rooms.{Rooms, rooms_after, Slice}
+use Rattle.caller.specs.Rooms.{Rooms, rooms_after, MutSlice}
 
 -- where a list of calls stands
 pub record Standing : Type 0 where
@@ -39,7 +39,7 @@ abbrev pub Steps : Entry → Standing → Standing → Type 0
 Steps e b m = (es : List Entry) (a : Standing) → Performs es m a → Performs (e ∷ es) b a
 
 -- the same of the words and the answers that a function was lent: it leads from g to h, and the rooms from before to after
-abbrev pub StepsIn : Entry → Going → Going → Slice ℕ → Rooms → Rooms → Slice ℕ → Type 0
+abbrev pub StepsIn : Entry → Going → Going → MutSlice ℕ → Rooms → Rooms → MutSlice ℕ → Type 0
 StepsIn e g h words before after answers =
     Steps e (standing g words.entry.now before answers.entry.now) (standing h words.exit.now after answers.exit.now)
 
@@ -48,7 +48,7 @@ abbrev pub entry_at : Lent → Four → Entry
 entry_at l e = entry_of l e.code e.a e.b e.c
 
 -- an output with v in each place
-abbrev pub filled_with : ℕ → Slice ℕ → List ℕ
+abbrev pub filled_with : ℕ → MutSlice ℕ → List ℕ
 filled_with v out = replicate (length out.entry.now) v
 
 -- ---- feeds
