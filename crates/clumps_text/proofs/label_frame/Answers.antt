@@ -1,0 +1,14 @@
+-- `label_frame` meets its contract.
+-- Assumes nothing.
+use mathlib.Core.Path.{sym, ◌∙◌}
+use native.Mathlib.Omega.{arith}
+use Rattle.clumps_text.proofs.FrameLaws.{product}
+use Rattle.clumps_text.proofs.ReportLaws.{prefix_long, prefix_room, prefix_new, ready, labels_printed}
+use borrow.Author.Rules.{rules}
+use Rattle.clumps_text.proofs.label_frame.Goals as goal
+
+pub returns : goal.returns
+returns c = labels_printed _ (prefix_new c.label_into-answer.new.numbers _
+    (c.label_into-answer.auto.numbers ∙ (ready
+    c.requires).places))
+    c.label_into-answer.ensures c.put_answer.ensures

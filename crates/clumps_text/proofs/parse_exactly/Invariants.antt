@@ -1,0 +1,18 @@
+-- `parse_exactly` meets its contract. The loop's invariant: the first i bytes stand there, and what is left to compare decides.
+-- Assumes nothing.
+use mathlib.Core.Path.{◌≡◌, sym, ap, ◌∙◌}
+use Prim.Native.Nat.{ℕ, ◌+◌, ◌-◌, ◌≤◌}
+use native.Mathlib.Omega.{arith}
+use borrow.Author.Rules.{rules}
+use lib.ListN.{length, drop, length-drop}
+use Rattle.clumps_text.specs.Input.{bad, parse_exactly}
+use Rattle.clumps_text.proofs.PlaceLaws.{parse_exactly_short, parse_exactly_same, parse_exactly_differ, parse_exactly_all}
+use Rattle.clumps_text.proofs.PlaceLaws.{from_nowhere, from_at}
+use Rattle.clumps_text.proofs.parse_exactly.Given as goal
+
+abbrev pub invariant-loop-i : goal.invariant-loop-i
+invariant-loop-i l = (l.i ≤ length l.name)
+    × ((length l.name ≤ length l.text - l.at) × (parse_exactly l.name (drop l.at l.text) ≡ parse_exactly (drop l.i l.name) (drop (l.at + l.i) l.text)))
+
+abbrev pub decreases-loop-i : goal.decreases-loop-i
+decreases-loop-i l = length l.name - l.i

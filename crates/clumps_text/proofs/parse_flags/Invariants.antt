@@ -1,0 +1,23 @@
+-- `parse_flags` meets its contract. The loop's invariant: the first i flags are read, and what follows decides.
+-- Assumes nothing.
+use mathlib.Core.Path.{◌≡◌, refl, sym, ap, ◌∙◌}
+use mathlib.Core.List.{[]}
+use Prim.Native.Nat.{ℕ, ◌+◌, ◌-◌, ◌≤◌}
+use native.Mathlib.Omega.{arith}
+use borrow.Author.Rules.{rules}
+use lib.ListN.{length, get_or, take, drop, length-drop}
+use lib.Seq.{drop-set-lt}
+use Rattle.clumps_text.specs.Input.{parse_flags}
+use Rattle.clumps_text.specs.Steps.{parse_as_bytes}
+use Rattle.clumps_text.proofs.PlaceLaws.{as_bytes, as_bytes_short, parse_flags_none, parse_flags_turn, parse_flags_all, some_flag}
+use Rattle.clumps_text.proofs.PlaceLaws.{flag_least, no_flag, from_nowhere, from_at}
+use Rattle.clumps_text.proofs.parse_flags.Given as goal
+
+abbrev pub invariant-loop-i : goal.invariant-loop-i
+invariant-loop-i l = (l.i ≤ l.n)
+    × ((l.n ≤ length l.text - l.at) × ((length l.out ≡ length l.initial.out)
+    × ((drop l.n l.out ≡ drop l.n l.initial.out) × (as_bytes [] (parse_flags l.n (drop l.at l.text)) ≡ as_bytes (take l.i l.out)
+    (parse_flags (l.n - l.i) (drop (l.at + l.i) l.text))))))
+
+abbrev pub decreases-loop-i : goal.decreases-loop-i
+decreases-loop-i l = l.n - l.i

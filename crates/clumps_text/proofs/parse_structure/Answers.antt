@@ -1,0 +1,25 @@
+-- `parse_structure` meets its contract.
+-- Assumes nothing.
+use mathlib.Core.Path.{◌≡◌, ◌∙◌}
+use native.Mathlib.Omega.{arith}
+use lib.ListN.{length, drop}
+use Rattle.clumps_text.proofs.StructureLaws.{empty_nine}
+use Rattle.clumps_text.proofs.FrameLaws.{flags_given_most, structure_parsed}
+use borrow.Author.Rules.{rules}
+use Rattle.clumps_text.proofs.parse_structure.Goals as goal
+
+pub parse_flags-requires : goal.parse_flags-requires
+parse_flags-requires c =
+    let s = c in
+    let m = flags_given_most (drop c.in-At.at s.args.text.now) in
+    let n : length s.args.structure.now ≡ 9 = empty_nine s.requires in
+    omega (arith, c.flags_given_at-n.ensures)
+
+pub returns : goal.returns
+returns c =
+    let s = c in
+    let n : length s.args.structure.now ≡ 9 = empty_nine s.requires in
+    let f = c.parse_flags in
+    structure_parsed s.args.text.now f.result f.new.out
+    c.in-At.is c.flags_given_at-n.ensures
+    s.requires (f.auto.out ∙ n) f.ensures.0 f.ensures.1
