@@ -46,12 +46,12 @@ rust() {
 # LABEL_C may name a folder that has the archive already; else it is built, unless it is there and no source is newer
 ours() {
     [ -z "${LABEL_C:-}" ] || return 0
-    export LABEL_C=$root/target/staticlib
+    export LABEL_C=$root/crates/label_c/out
     local archive=$LABEL_C/liblabel_c.a
-    [ ! -e "$archive" ] || [ -n "$(find "$root/crates" "$root/crates.txt" \( -name '*.rt' -o -name crates.txt \) -newer "$archive" -print -quit)" ] || return 0
+    [ ! -e "$archive" ] || [ -n "$(find "$root/crates" "$root/crates.txt" -name out -prune -o \( -name '*.rt' -o -name crates.txt \) -newer "$archive" -print -quit)" ] || return 0
     command -v rt >/dev/null || fail "rt is not at hand"
     mkdir -p "$laid"
-    (cd "$root" && rt staticlib label_c) >"$laid/said" 2>&1 || { cat "$laid/said" >&2; fail "label_c was not built"; }
+    (cd "$root/crates/label_c" && rt lib) >"$laid/said" 2>&1 || { cat "$laid/said" >&2; fail "label_c was not built"; }
 }
 
 # a python3 that has these modules, or nothing; PYTHON may name one
