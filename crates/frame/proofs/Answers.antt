@@ -13,13 +13,15 @@ use Rattle.frame.specs.ChainRule.{nonzero, same_list, any, leads_by, edges_by, e
 use Rattle.frame.specs.Scipy.{connecting, scipy_edges, scipy_count, scipy_labels}
 use Rattle.frame.specs.Runs.{goes_on, begins_run, runs, nonzero_cells, Run, stretches, singles, line_runs, line_of, frame_runs}
 use Rattle.frame.specs.Runs.{all_runs, runs_before, frame_run}
-use Rattle.frame.specs.Touches.{reaches, used, has_nbr, nbr_line, touches_by, touches_of, touches, frame_touches}
+use Rattle.frame.specs.Touches.{reaches, used, has_nbr, nbr_line, touches_by, touches_of, touches, frame_touches, touch_count}
 use Rattle.frame.specs.Kinds.{nz, nzℤ, nz_f, flags, u8, u16, u32, largest, holds}
 use Rattle.frame.specs.Memory.{per_line, words_needed}
 use Rattle.frame.specs.Causes.{bad_rank, has_zero, too_large, unlike, lopsided, first_cause, open_tests, open_cause, feed_tests, feed_cause}
 use Rattle.frame.specs.Causes.{read_tests, read_cause, sizes_tests, sizes_cause, left_differs, dropped, not_wider, widen_tests, widen_cause}
 use Rattle.frame.specs.Causes.{frame_tests, frame_cause}
 use Rattle.frame.specs.Plain.{unless, kept, feeds, widens, groups_of, figures, cause, answer, written, changed, next, plain, session}
+use Rattle.frame.specs.Dearest.{alternate, alternating, middles_on, most_touches, touches_per_line}
+use Rattle.frame.specs.Lists.{all}
 use Rattle.frame.specs.Frames.{asked, nine, slips, refusals, changes, frames}
 
 -- what the computation of a session opens
@@ -208,3 +210,40 @@ one_way : leads_by (2 ∷ 2 ∷ []) (connecting (2 ∷ 2 ∷ []) (0 ∷ 1 ∷ 0 
     ∷ leads_by (2 ∷ 2 ∷ []) (connecting (2 ∷ 2 ∷ []) (0 ∷ 1 ∷ 0 ∷ 1 ∷ 1 ∷ 0 ∷ 0 ∷ 0 ∷ 0 ∷ [])) 0 1 ∷ [] ≡ true ∷ false ∷ []
 unfolding connecting computed
 one_way = refl
+
+-- ---- the most runs, and the most touches
+
+nine_ones : List ℕ
+nine_ones = replicate 9 1
+
+dearest_right : alternating (2 ∷ 3 ∷ []) ≡ map nz (1 ∷ 0 ∷ 1 ∷ 1 ∷ 0 ∷ 1 ∷ [])
+unfolding alternate alternating computed
+dearest_right = refl
+
+-- 3 lines 10101: 9 runs, and 3 touches for each line but the first
+costs_right : runs (3 ∷ 5 ∷ []) nine_ones (alternating (3 ∷ 5 ∷ [])) ∷ touch_count (3 ∷ 5 ∷ []) nine_ones (alternating (3 ∷ 5 ∷ [])) 0 3 ∷ []
+    ≡ 9 ∷ 6 ∷ []
+unfolding nine_ones alternate alternating stretches singles line_runs line_of frame_runs all_runs runs_before frame_run reaches used
+    has_nbr nbr_line touches_by touches_of touches touch_count computed
+costs_right = refl
+
+-- two lines under one offset: 4 and 3 runs with 6 touches, and 4 and 4 with 7, the most that there can be. With the left byte zero 3 and 3
+-- runs can have 7, more than they are together
+bounds_right : touch_count (2 ∷ 7 ∷ []) nine_ones (map nz (1 ∷ 0 ∷ 1 ∷ 0 ∷ 1 ∷ 0 ∷ 1 ∷ 0 ∷ 1 ∷ 0 ∷ 1 ∷ 0 ∷ 1 ∷ 0 ∷ [])) 0 2
+    ∷ touch_count (2 ∷ 8 ∷ []) nine_ones (map nz (1 ∷ 0 ∷ 1 ∷ 0 ∷ 1 ∷ 0 ∷ 1 ∷ 0 ∷ 0 ∷ 1 ∷ 0 ∷ 1 ∷ 0 ∷ 1 ∷ 0 ∷ 1 ∷ [])) 0 2
+    ∷ touches_per_line (2 ∷ 8 ∷ []) nine_ones
+    ∷ touch_count (2 ∷ 3 ∷ []) (1 ∷ 1 ∷ 1 ∷ 0 ∷ 1 ∷ 0 ∷ 1 ∷ 1 ∷ 1 ∷ []) (replicate 6 true) 0 2
+    ∷ touches_per_line (2 ∷ 3 ∷ []) (1 ∷ 1 ∷ 1 ∷ 0 ∷ 1 ∷ 0 ∷ 1 ∷ 1 ∷ 1 ∷ [])
+    ∷ touches_per_line (2 ∷ 3 ∷ 4 ∷ 5 ∷ []) (replicate 81 1)
+    ∷ []
+    ≡ 6 ∷ 7 ∷ 7 ∷ 7 ∷ 7 ∷ 65 ∷ []
+unfolding nine_ones most_touches touches_per_line stretches singles line_runs line_of frame_runs all_runs runs_before frame_run reaches used
+    has_nbr nbr_line touches_by touches_of touches touch_count computed
+bounds_right = refl
+
+-- nine ones, the cross, no offset used; the middle byte zero, and the last byte alone
+middles_right : map (middles_on (3 ∷ 3 ∷ []))
+    (nine_ones ∷ cross ∷ replicate 9 0 ∷ (1 ∷ 0 ∷ 1 ∷ 1 ∷ 1 ∷ 1 ∷ 1 ∷ 0 ∷ 1 ∷ []) ∷ (0 ∷ 0 ∷ 1 ∷ 0 ∷ 0 ∷ 0 ∷ 1 ∷ 0 ∷ 0 ∷ []) ∷ [])
+    ≡ true ∷ true ∷ true ∷ false ∷ false ∷ []
+unfolding nine_ones cross used all middles_on computed
+middles_right = refl

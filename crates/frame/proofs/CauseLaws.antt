@@ -6,11 +6,11 @@ use mathlib.Core.Bool.{Bool, true, false, not, cond, ◌||◌, true≢false}
 use mathlib.Core.List.{List, [], ◌∷◌, ◌++◌}
 use Prim.Native.Nat.{ℕ, suc, ◌*◌, ◌^◌, ◌≤◌, ◌<◌}
 use native.Mathlib.Omega.{arith}
-use borrow.Author.Tests.{eqb-true, eqb-false, eq-eqb, ltb-false, le-ltb, not-false}
-use lib.Dec.{eqb, ltb}
+use borrow.Author.Tests.{eqb-true, eqb-false, eq-eqb, ltb-false, le-ltb, leb-false, not-false}
+use lib.Dec.{eqb, ltb, leb}
 use lib.ListN.{length}
-use Rattle.groups.proofs.BoolLaws.{or_left}
-use Rattle.frame.specs.Shape.{size, leading}
+use Rattle.groups.proofs.BoolLaws.{or_left, or₃_false}
+use Rattle.frame.specs.Shape.{size, width, leading, lines}
 use Rattle.frame.specs.Memory.{words_needed}
 use Rattle.frame.specs.Causes.{bad_rank, has_zero, too_large, lopsided, Test, when, first_cause, open_tests, open_cause, feed_tests}
 use Rattle.frame.specs.Causes.{feed_cause, read_tests, read_cause, sizes_tests, sizes_cause, not_wider, widen_tests, widen_cause}
@@ -94,6 +94,13 @@ rank_right shape h = go (eqb (length shape) 0) refl
     go false e =
         let ne = eqb-false (length shape) 0 e in
         (omega arith, ltb-false 4 (length shape) (sym (ap (λ (t : Bool). t || ltb 4 (length shape)) e) ∙ h))
+
+pub within_limits : (shape : List ℕ) → too_large shape ≡ false
+    → (width shape < 2147483647) × (lines shape < 4294967293) × (size shape < 4294967293)
+unfolding too_large
+within_limits shape h =
+    let f = or₃_false (leb 2147483647 (width shape)) (leb 4294967293 (lines shape)) (leb 4294967293 (size shape)) h in
+    (leb-false 2147483647 (width shape) f.0, leb-false 4294967293 (lines shape) f.1, leb-false 4294967293 (size shape) f.2)
 
 -- what an accepted opening was given
 pub record Allowed (shape structure : List ℕ) (memory : ℕ) : Type 0 where

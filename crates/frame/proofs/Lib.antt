@@ -22,3 +22,5 @@ pub mod CauseLaws
 pub mod WiderLaws
 pub mod ScipyLaws
 pub mod PlainLaws
+pub mod TouchBounds
+pub mod DearestLaws

@@ -1,23 +1,24 @@
 -- The list of touches holds exactly the touches, comes in pieces, and leads to runs before.
 -- Assumes nothing.
-use mathlib.Core.Path.{◌≡◌, refl, sym, ◌∙◌}
+use mathlib.Core.Path.{◌≡◌, refl, sym, ap, ◌∙◌}
 use mathlib.Core.Bool.{Bool, true, false, cond, ◌&&◌}
 use mathlib.Core.List.Memᴰ
-use mathlib.Core.List.{List, [], ◌++◌, Memᴰ}
-use Prim.Native.Nat.{ℕ, suc, ◌+◌, ◌-◌, ◌*◌, ◌^◌, ◌≤◌, ◌<◌}
+use mathlib.Core.List.{List, [], ◌++◌, append-nil, Memᴰ}
+use Prim.Native.Nat.{ℕ, suc, ◌+◌, ◌-◌, ◌*◌, ◌/◌, ◌^◌, ◌≤◌, ◌<◌}
 use native.Mathlib.Nat.{pow-succ'}
 use native.Mathlib.Omega.{arith}
-use borrow.Author.Tests.{ltb-true}
+use borrow.Author.Tests.{ltb-true, le-ltb}
 use lib.ListN.{length, get_or}
-use Rattle.groups.specs.Groups.{Edge, pairs}
+use Rattle.groups.specs.Groups.{Edge, gather, pairs}
 use Rattle.groups.proofs.BoolLaws.{and_left, and_right}
-use Rattle.groups.proofs.GatherLaws.{gather_split, gather_same, gather_from, from_gather, Pair, pairs_from, from_pairs, pairs_same}
+use Rattle.groups.proofs.GatherLaws.{gather_split, gather_same, gather_none, gather_from, from_gather, Pair, pairs_from, from_pairs}
+use Rattle.groups.proofs.GatherLaws.{pairs_same}
 use Rattle.groups.proofs.RepLaws.{Ends, ends_all}
 use Rattle.frame.specs.Shape.{size}
 use Rattle.frame.specs.Structure.{offset, backward, on}
 use Rattle.frame.specs.Runs.{Run}
 use Rattle.frame.specs.Touches.{reaches, used, has_nbr, nbr_line, touches_by, touches_of, touches}
-use Rattle.frame.proofs.StructureLaws.{length_offset, mid, backward_mid}
+use Rattle.frame.proofs.StructureLaws.{length_offset, mid, backward_mid, backward_below}
 use Rattle.frame.proofs.NbrLaws.{nbr_before}
 
 -- a leading offset that is used has a code below the middle, and leads to a line before
@@ -125,6 +126,30 @@ module _ (ds structure : List ℕ) (S : ℕ → ℕ) (R : ℕ → Run) where
   pub touches_split : (a n m : ℕ) → touches ds structure S R a (n + m) ≡ touches ds structure S R a n ++ touches ds structure S R (a + n) m
   unfolding touches
   touches_split a n m = gather_split (touches_of ds structure S R) a n m
+
+  -- ---- only the offsets below the middle are used
+
+  unused : (k : ℕ) → 3 ^ length ds / 2 ≤ k → k < 3 ^ length ds → used structure (length ds) k ≡ false
+  unfolding used
+  unused k l u =
+      let e : backward (offset (length ds) k) ≡ false = backward_below (length ds) k u ∙ le-ltb k (3 ^ length ds / 2) l in
+      rw e
+
+  forward_none : (ℓ k : ℕ) → 3 ^ length ds / 2 ≤ k → k < 3 ^ length ds → touches_by ds structure S R ℓ k ≡ []
+  unfolding touches_by
+  forward_none ℓ k l u = rw (unused k l u)
+
+  pub touches_backward : (ℓ : ℕ) → touches_of ds structure S R ℓ ≡ gather (touches_by ds structure S R ℓ) 0 (3 ^ length ds / 2)
+  unfolding touches_of
+  touches_backward ℓ =
+      let n : ℕ = 3 ^ length ds in
+      let by : ℕ → List Edge = touches_by ds structure S R ℓ in
+      let e : n ≡ n / 2 + (n - n / 2) = omega arith in
+      ap (gather by 0) e
+      ∙ gather_split by 0 (n / 2) (n - n / 2)
+      ∙ ap (λ (l : List Edge). gather by 0 (n / 2) ++ l)
+      (gather_none by (0 + n / 2) (n - n / 2) (λ k l u. forward_none ℓ k (omega arith) (omega arith)))
+      ∙ append-nil (gather by 0 (n / 2))
 
   -- ---- where the line starts rise
 

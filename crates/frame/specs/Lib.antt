@@ -8,6 +8,7 @@ pub mod Runs
 pub mod Touches
 pub mod Kinds
 pub mod Memory
+pub mod Dearest
 pub mod Words
 pub mod Causes
 pub mod Plain

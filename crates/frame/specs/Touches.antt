@@ -73,3 +73,7 @@ module _ (ds structure : List ℕ) (S : ℕ → ℕ) (R : ℕ → Run) where
 abbrev pub frame_touches : List ℕ → List ℕ → List Bool → ℕ → ℕ → List Edge
 frame_touches shape structure cells a n =
     touches (leading shape) structure (runs_before shape structure cells) (frame_run shape structure cells) a n
+
+-- document 02's touches of those lines: how many pairs, "counted once for each offset"
+unfoldable pub touch_count : List ℕ → List ℕ → List Bool → ℕ → ℕ → ℕ
+touch_count shape structure cells a n = length (frame_touches shape structure cells a n)

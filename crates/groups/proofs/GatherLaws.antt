@@ -5,11 +5,12 @@ use mathlib.Core.Logic.{◌⊎◌, inl, inr}
 use mathlib.Core.Bool.{Bool, true, false, cond, true≢false}
 use mathlib.Core.List.Memᴰ
 use mathlib.Core.List.{List, [], ◌∷◌, ◌++◌, append_assoc, append-nil, Memᴰ}
-use Prim.Native.Nat.{ℕ, zero, suc, ◌+◌, ◌≤◌, ◌<◌}
-use native.Mathlib.Nat.{le_refl}
+use Prim.Native.Nat.{ℕ, zero, suc, ◌+◌, ◌*◌, ◌≤◌, ◌<◌}
+use native.Mathlib.Nat.{le_refl, suc-mul}
 use native.Mathlib.Omega.{arith}
 use borrow.Author.Tests.{eqb-true, eqb-false}
 use lib.Dec.{eqb}
+use lib.ListN.{length, length-append}
 use Rattle.groups.specs.Groups.{Edge, gather, pairs}
 use Rattle.groups.proofs.RepLaws.{Ends, ends_all}
 
@@ -126,6 +127,21 @@ unfolding gather
 gather_none f a zero h = refl
 gather_none {A} f a (suc n) h = ap₂ (λ (x : List A) (y : List A). x ++ y) (h a (le_refl a) (omega arith))
     (gather_none f (suc a) n (λ k l u. h k (omega arith) (omega arith)))
+
+-- where each piece has m, and where none has more
+pub gather_each : {A : Type 0} (f : ℕ → List A) (m : ℕ) → ((k : ℕ) → length (f k) ≡ m) → (a n : ℕ) → length (gather f a n) ≡ n * m
+unfolding gather
+gather_each f m h a zero = omega arith
+gather_each f m h a (suc n) =
+    omega (arith, length-append (f a) (gather f (suc a) n), h a, gather_each f m h (suc a) n, suc-mul n m)
+
+pub gather_most : {A : Type 0} (f : ℕ → List A) (m a n : ℕ) → ((k : ℕ) → a ≤ k → k < a + n → length (f k) ≤ m)
+    → length (gather f a n) ≤ n * m
+unfolding gather
+gather_most f m a zero h = omega arith
+gather_most f m a (suc n) h =
+    let i = gather_most f m (suc a) n (λ k l u. h k (omega arith) (omega arith)) in
+    omega (arith, length-append (f a) (gather f (suc a) n), h a (le_refl a) (omega arith), suc-mul n m)
 
 module _ (t : ℕ → ℕ → Bool) where
   pub pairs_none : (a n b m : ℕ) → ((i j : ℕ) → a ≤ i → i < a + n → b ≤ j → j < b + m → t i j ≡ false) → pairs t a n b m ≡ []

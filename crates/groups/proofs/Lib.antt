@@ -10,3 +10,4 @@ pub mod VisitLaws
 pub mod NumberLaws
 pub mod QuotientLaws
 pub mod SumLaws
+pub mod PairLaws

@@ -1,6 +1,6 @@
 -- Graphs of numbered nodes: chains, edges, the groups that edges make, and joins.
 -- Assumes nothing.
-use Rattle.std.specs.Prelude.{◌⊎◌, Bool, cond, ◌&&◌, ℕ, zero, suc, ◌+◌, min, max, eqb}
+use Rattle.std.specs.Prelude.{◌⊎◌, Bool, true, cond, ◌&&◌, ℕ, zero, suc, ◌+◌, min, max, eqb}
 use mathlib.Core.List.{List, [], ◌∷◌, ◌++◌, Memᴰ}
 
 -- document 01's chain: one or more nodes, each a step from the one before
@@ -48,6 +48,10 @@ sum_over f v (suc n) = cond (f n) (v n) 0 + sum_over f v n
 -- so over the group that r represents, where `root` gives the representative of each node
 unfoldable pub group_sum : (ℕ → ℕ) → (ℕ → ℕ) → ℕ → ℕ → ℕ
 group_sum root v n r = sum_over (λ s. eqb (root s) r) v n
+
+-- how many pairs pass a test: a number below n and one below m
+unfoldable pub tally : (ℕ → ℕ → Bool) → ℕ → ℕ → ℕ
+tally t n m = sum_over (λ i. true) (λ i. count (t i) m) n
 
 -- how many groups the live nodes below n make
 unfoldable pub groups : (ℕ → Bool) → List Edge → ℕ → ℕ
