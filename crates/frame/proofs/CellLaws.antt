@@ -10,7 +10,7 @@ use lib.ListN.{length, get_or, take, drop, take-append-drop}
 use lib.Seq.{take_all, take-nil}
 use Rattle.groups.specs.Groups.{sum_over}
 use Rattle.groups.proofs.CountLaws.{count_none, count_front, count_most}
-use Rattle.frame.specs.Shape.{width, lines}
+use Rattle.frame.specs.Shape.{width}
 use Rattle.frame.specs.Structure.{left_on}
 use Rattle.frame.specs.ChainRule.{nonzero}
 use Rattle.frame.specs.Runs.{nonzero_cells, Run, none, run_length, run_lengths, stretches, singles, line_runs, line_of}
