@@ -10,19 +10,18 @@ use native.Mathlib.Nat.{le_refl, le_trans}
 use native.Mathlib.Omega.{arith}
 use borrow.Author.Tests.{eq-eqb, ne_eqb, ltb-true, ltb-false}
 use lib.Dec.{eqb, ltb}
-use lib.ListN.{length, set, length-set}
-use lib.Seq.{get_or-set_other}
+use lib.ListN.{length, set}
 use Rattle.groups.specs.Groups.{merge, rep, group_sum}
 use Rattle.groups.proofs.RepLaws.{Merged, merged, merge_hit, merge_miss, rep_idle}
 use Rattle.groups.proofs.SumLaws.{sum_same, sum_add}
 use Rattle.frame.specs.Memory.{stride}
-use Rattle.frame.specs.Words.{parent_at, size_at}
+use Rattle.frame.specs.Words.{parent_at}
 use Rattle.forest.specs.Forest.{root_of, grouping}
 use Rattle.forest.specs.Unions.{parent_in, size_in, Parents, Sized, Summed, ParentsOnly, GroupWordsOnly, Found, Finds, ToJoin, joined}
 use Rattle.forest.specs.Unions.{Union, Unites}
 use Rattle.forest.proofs.ForestLaws.{root_stays, root_le, root_root, root_parent, root_unique, grouping_rep}
 use Rattle.forest.proofs.SizeLaws.{sums_same, two_roots}
-use Rattle.forest.proofs.ParentLaws.{only_refl, only_parents, only_trans, only_sizes, only_kept, kept_trans, kept_parents}
+use Rattle.forest.proofs.ParentLaws.{only_refl, only_parents, only_trans, only_sizes, only_kept, kept_trans}
 use Rattle.forest.proofs.ParentLaws.{put_same, put_other, put_kept, size_same, size_other, size_root, size_kept}
 
 -- the parent's parent, and the words once it is the parent

@@ -7,7 +7,7 @@ use Prim.Native.Nat.{ℕ, ◌+◌, ◌-◌, ◌*◌, ◌≤◌, ◌<◌}
 use native.Mathlib.Omega.{arith}
 use borrow.Author.Tests.{lt-ltb}
 use lib.ListN.{length}
-use Rattle.groups.specs.Groups.{rep, sum_over, group_sum}
+use Rattle.groups.specs.Groups.{rep, sum_over}
 use Rattle.frame.specs.Shape.{width}
 use Rattle.frame.specs.Runs.{nonzero_cells, run_length, run_lengths, frame_run}
 use Rattle.frame.specs.Words.{parent_of, size_word, stored_run}

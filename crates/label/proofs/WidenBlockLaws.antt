@@ -10,7 +10,7 @@ use lib.Dec.{ltb}
 use lib.ListN.{length}
 use Rattle.groups.specs.Groups.{Edge, rep, sum_over, joins, visit}
 use Rattle.groups.proofs.SumLaws.{sum_values}
-use Rattle.frame.specs.Shape.{width, leading}
+use Rattle.frame.specs.Shape.{width}
 use Rattle.frame.specs.Runs.{run_length}
 use Rattle.frame.specs.Touches.{touches}
 use Rattle.frame.specs.Plain.{Answer, fed, unless}

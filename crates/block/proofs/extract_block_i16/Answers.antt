@@ -1,12 +1,8 @@
 -- `extract_block_i16` meets its contract. The loop's invariant: the first i lines are extracted.
 -- Assumes nothing.
-use mathlib.Core.List.{map}
-use Prim.Native.Nat.{◌-◌, ◌≤◌}
 use native.Mathlib.Omega.{arith}
-use borrow.Author.Rules.{rules}
 use Rattle.frame.specs.Kinds.{nzℤ}
-use Rattle.block.specs.Blocks.{Extracts}
-use Rattle.block.proofs.BlockLaws.{block_none, cells_fit, block_room, block_small, block_few, block_then, block_end}
+use Rattle.block.proofs.BlockLaws.{block_none, block_room, block_small, block_few, block_then}
 use Rattle.block.proofs.extract_block_i16.Goals as goal
 
 pub loop-i-init : goal.loop-i-init

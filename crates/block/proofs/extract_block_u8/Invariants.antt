@@ -2,11 +2,8 @@
 -- Assumes nothing.
 use mathlib.Core.List.{map}
 use Prim.Native.Nat.{◌-◌, ◌≤◌}
-use native.Mathlib.Omega.{arith}
-use borrow.Author.Rules.{rules}
 use Rattle.frame.specs.Kinds.{nz}
 use Rattle.block.specs.Blocks.{Extracts}
-use Rattle.block.proofs.BlockLaws.{block_none, cells_fit, block_room, block_small, block_few, block_then, block_end}
 use Rattle.block.proofs.extract_block_u8.Given as goal
 
 abbrev pub invariant-loop-i : goal.invariant-loop-i

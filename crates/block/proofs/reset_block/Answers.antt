@@ -1,9 +1,6 @@
 -- `reset_block` meets its contract: the runs' words are lent to `reset` as a part, and come back.
 -- Assumes nothing.
-use Prim.Native.Nat.{◌+◌}
-use native.Mathlib.Omega.{arith}
-use borrow.Author.Rules.{rules}
-use Rattle.block.proofs.BlockResetLaws.{reset_asked, reset_back}
+use Rattle.block.proofs.BlockResetLaws.{reset_back}
 use Rattle.block.proofs.reset_block.Goals as goal
 
 pub returns : goal.returns

@@ -1,12 +1,12 @@
 -- `union_block` meets its contract. The loop's invariant: the first `done` lines are united, and the runs of the others are their own
 -- parents.
 -- Assumes nothing.
-use Prim.Native.Nat.{◌+◌, ◌-◌, ◌≤◌}
+use Prim.Native.Nat.{◌+◌}
 use native.Mathlib.Omega.{arith}
 use borrow.Author.Rules.{rules}
 use lib.ListN.{length}
 use mathlib.Core.Path.{◌≡◌}
-use Rattle.block.proofs.LineUnionLaws.{Going, going_none, going_few, going_ready, going_then}
+use Rattle.block.proofs.LineUnionLaws.{going_none, going_few, going_ready, going_then}
 use Rattle.block.proofs.BlockUnionLaws.{block_idle, reset_may, reset_ready, reset_own, block_united}
 use Rattle.block.proofs.union_block.Goals as goal
 

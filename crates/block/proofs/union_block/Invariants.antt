@@ -2,12 +2,7 @@
 -- parents.
 -- Assumes nothing.
 use Prim.Native.Nat.{◌+◌, ◌-◌, ◌≤◌}
-use native.Mathlib.Omega.{arith}
-use borrow.Author.Rules.{rules}
-use lib.ListN.{length}
-use mathlib.Core.Path.{◌≡◌}
-use Rattle.block.proofs.LineUnionLaws.{Going, going_none, going_few, going_ready, going_then}
-use Rattle.block.proofs.BlockUnionLaws.{block_idle, reset_may, reset_ready, reset_own, block_united}
+use Rattle.block.proofs.LineUnionLaws.{Going}
 use Rattle.block.proofs.union_block.Given as goal
 
 abbrev pub invariant-loop-done : goal.invariant-loop-done

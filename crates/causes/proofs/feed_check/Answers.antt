@@ -1,9 +1,7 @@
 -- `feed_check` meets its contract: each condition is tested where those before it do not hold.
 -- Assumes nothing.
-use borrow.Author.Rules.{rules}
 use Prim.Native.Nat.{◌-◌}
-use native.Mathlib.Omega.{arith}
-use Rattle.causes.proofs.CallLaws.{feed_product, feed_gets_7, feed_gets_8, feed_gets_none}
+use Rattle.causes.proofs.CallLaws.{feed_gets_7, feed_gets_8, feed_gets_none}
 use Rattle.causes.proofs.feed_check.Goals as goal
 
 pub returns-then-k-g : goal.returns-then-k-g

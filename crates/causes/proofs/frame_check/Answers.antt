@@ -1,6 +1,5 @@
 -- `frame_check` meets its contract: an opening's cause comes first, then 8 and 9.
 -- Assumes nothing.
-use borrow.Author.Rules.{rules}
 use native.Mathlib.Omega.{arith}
 use Rattle.causes.proofs.CaseLaws.{failed_some, passed_none}
 use Rattle.causes.proofs.OpenLaws.{found_cause}

@@ -1,16 +1,14 @@
 -- `open_check` meets its contract: each condition is tested where those before it do not hold.
 -- Assumes nothing.
-use borrow.Author.Rules.{rules}
 use mathlib.Core.Path.{sym, ◌∙◌, subst}
 use mathlib.Core.List.{List}
 use Prim.Native.Nat.{ℕ}
 use native.Mathlib.Omega.{arith}
 use lib.ListN.{length}
 use Rattle.frame.specs.Lists.{padded}
-use Rattle.frame.proofs.CauseLaws.{rank_right}
 use Rattle.geo.specs.Geometry.{ShapeReady, Measured}
 use Rattle.causes.proofs.OpenLaws.{found_cause, rank_test, open_gets_1, open_gets_2, open_gets_12, open_ready, open_gets_3}
-use Rattle.causes.proofs.OpenLaws.{open_gets_4, open_limits, open_gets_5, open_found}
+use Rattle.causes.proofs.OpenLaws.{open_gets_4, open_gets_5, open_found}
 use Rattle.causes.proofs.open_check.Goals as goal
 
 pub returns-then-bad_rank : goal.returns-then-bad_rank

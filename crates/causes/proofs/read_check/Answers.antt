@@ -1,6 +1,5 @@
 -- `read_check` meets its contract: each condition is tested where those before it do not hold.
 -- Assumes nothing.
-use borrow.Author.Rules.{rules}
 use Prim.Native.Nat.{◌*◌}
 use Rattle.causes.proofs.CallLaws.{read_gets_9, read_gets_10, read_gets_none}
 use Rattle.causes.proofs.read_check.Goals as goal

@@ -1,6 +1,6 @@
 -- `flood::count_cells` is safe and ends. Slices lent keep their length.
 -- Assumes nothing.
-use Rattle.std.proofs.Common.{◌≡◌, ◌-◌, length, rules}
+use Rattle.std.proofs.Common.{◌≡◌, ◌-◌, length}
 use Rattle.flood.proofs.count_cells.Given as goal
 
 abbrev pub invariant-loop-cell : goal.invariant-loop-cell

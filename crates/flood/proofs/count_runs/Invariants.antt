@@ -1,6 +1,6 @@
 -- `flood::count_runs` is safe and ends.
 -- Assumes nothing.
-use Rattle.std.proofs.Common.{◌-◌, arith, rules}
+use Rattle.std.proofs.Common.{◌-◌}
 use Rattle.flood.proofs.count_runs.Given as goal
 
 abbrev pub invariant-loop-cell : goal.invariant-loop-cell

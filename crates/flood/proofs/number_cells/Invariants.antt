@@ -1,6 +1,6 @@
 -- `flood::number_cells` is safe and ends.
 -- Assumes nothing.
-use Rattle.std.proofs.Common.{◌-◌, arith}
+use Rattle.std.proofs.Common.{◌-◌}
 use Rattle.flood.proofs.number_cells.Given as goal
 
 abbrev pub invariant-loop-cell : goal.invariant-loop-cell

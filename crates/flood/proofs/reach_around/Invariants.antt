@@ -1,6 +1,6 @@
 -- `flood::reach_around` is safe and ends.
 -- Assumes nothing.
-use Rattle.std.proofs.Common.{◌-◌, arith, rules}
+use Rattle.std.proofs.Common.{◌-◌}
 use Rattle.flood.proofs.reach_around.Given as goal
 
 abbrev pub invariant-loop-entry : goal.invariant-loop-entry

@@ -1,6 +1,6 @@
 -- `flood::spread` is safe and ends.
 -- Assumes nothing.
-use Rattle.std.proofs.Common.{◌-◌, arith, rules}
+use Rattle.std.proofs.Common.{◌-◌}
 use Rattle.flood.proofs.spread.Given as goal
 
 abbrev pub invariant-loop-head : goal.invariant-loop-head

@@ -1,6 +1,6 @@
 -- `flood::unite_numbers` is safe and ends.
 -- Assumes nothing.
-use Rattle.std.proofs.Common.{◌-◌, arith}
+use Rattle.std.proofs.Common.{◌-◌}
 use Rattle.flood.proofs.unite_numbers.Given as goal
 
 abbrev pub invariant-loop-i : goal.invariant-loop-i

@@ -1,18 +1,14 @@
 -- `forest::find` meets its contract. The loop's invariant: every root stands, and run `at` has the root of `x`. The measure is `at`,
 -- since a parent is below its run until the root.
 -- Assumes nothing.
-use Prim.Native.Nat.{suc, ◌*◌, ◌≤◌}
-use mathlib.Core.Path.{refl, sym, ◌∙◌}
+use Prim.Native.Nat.{suc, ◌≤◌}
+use mathlib.Core.Path.{sym, ◌∙◌}
 use native.Mathlib.Nat.{le_refl}
 use native.Mathlib.Omega.{arith}
-use lib.ListN.{length}
-use Rattle.frame.specs.Memory.{stride}
-use Rattle.frame.specs.Words.{parent_at}
-use Rattle.forest.specs.Forest.{root_of}
-use Rattle.forest.specs.Unions.{parent_in, Parents, Finds}
+use Rattle.forest.specs.Unions.{parent_in, Parents}
 use Rattle.forest.proofs.ForestLaws.{root_stays, root_parent}
-use Rattle.forest.proofs.ParentLaws.{only_refl, only_parents}
-use Rattle.forest.proofs.UnionLaws.{found_half, finds_long}
+use Rattle.forest.proofs.ParentLaws.{only_parents}
+use Rattle.forest.proofs.UnionLaws.{found_half}
 use Rattle.forest.proofs.find.Goals as goal
 
 -- the parent of `at` is its own parent: the root of `at`, and so of x

@@ -1,12 +1,10 @@
 -- `forest::reset` meets its contract. The loop's invariant: runs a to before r are groups of their own, and every other word stands.
 -- Assumes nothing.
-use Prim.Native.Nat.{ℕ, suc, ◌*◌, ◌≤◌, ◌<◌, ◌-◌, max}
+use Prim.Native.Nat.{suc, ◌*◌, ◌≤◌}
 use native.Mathlib.Omega.{arith}
-use lib.ListN.{length, get_or, length-set}
+use lib.ListN.{length}
 use Rattle.frame.specs.Memory.{stride}
-use Rattle.frame.specs.Words.{start_at, end_at}
-use Rattle.forest.specs.Unions.{Reset}
-use Rattle.forest.proofs.ResetLaws.{reset_none, reset_more, reset_end}
+use Rattle.forest.proofs.ResetLaws.{reset_more, reset_end}
 use Rattle.forest.proofs.reset.Goals as goal
 
 pub loop-r-preserved : goal.loop-r-preserved

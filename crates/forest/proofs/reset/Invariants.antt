@@ -1,12 +1,7 @@
 -- `forest::reset` meets its contract. The loop's invariant: runs a to before r are groups of their own, and every other word stands.
 -- Assumes nothing.
-use Prim.Native.Nat.{ℕ, suc, ◌*◌, ◌≤◌, ◌<◌, ◌-◌, max}
-use native.Mathlib.Omega.{arith}
-use lib.ListN.{length, get_or, length-set}
-use Rattle.frame.specs.Memory.{stride}
-use Rattle.frame.specs.Words.{start_at, end_at}
+use Prim.Native.Nat.{◌≤◌, ◌-◌, max}
 use Rattle.forest.specs.Unions.{Reset}
-use Rattle.forest.proofs.ResetLaws.{reset_none, reset_more, reset_end}
 use Rattle.forest.proofs.reset.Given as goal
 
 abbrev pub invariant-loop-r : goal.invariant-loop-r

@@ -3,20 +3,18 @@
 -- Assumes nothing.
 -- ---- a root above the other run
 -- ---- otherwise: both finds
-use Prim.Native.Nat.{ℕ, suc, ◌≤◌, ◌<◌, min, max}
+use Prim.Native.Nat.{ℕ, ◌<◌, min, max}
 use mathlib.Core.Path.{◌≡◌}
-use mathlib.Core.Logic.{inl, inr}
 use mathlib.Core.Bool.{Bool, true, ◌&&◌}
 use mathlib.Core.List.{List}
 use native.Mathlib.Omega.{arith}
-use borrow.Author.Rules.{rules}
 use borrow.Author.Tests.{eqb-true, ltb-true}
 use lib.Dec.{eqb, ltb}
 use Rattle.groups.proofs.BoolLaws.{and_left, and_right}
 use Rattle.frame.specs.Words.{parent_at}
-use Rattle.forest.specs.Unions.{parent_in, Parents, Found, ToJoin, joined}
-use Rattle.forest.proofs.ParentLaws.{parents_fewer, only_parents}
-use Rattle.forest.proofs.UnionLaws.{Both, both, both_idle, both_joined, both_asked, above_joined, above_asked, one_parent}
+use Rattle.forest.specs.Unions.{parent_in}
+use Rattle.forest.proofs.ParentLaws.{only_parents}
+use Rattle.forest.proofs.UnionLaws.{both_idle, both_joined, both_asked, above_joined, above_asked, one_parent}
 use Rattle.forest.proofs.union.Goals as goal
 use Rattle.forest.proofs.union.Goals.{then-ra-rb-2, else-ra-rb-2, then-ra-rb-3, else-ra-rb-3}
 

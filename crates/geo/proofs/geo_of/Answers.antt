@@ -1,6 +1,5 @@
 -- `geo_of` meets its contract: lines are counted up to the limit.
 -- Assumes nothing.
-use borrow.Author.Rules.{rules}
 use Rattle.geo.proofs.DimsLaws.{rank_limits}
 use Rattle.geo.proofs.GeoLaws.{measured}
 use Rattle.geo.proofs.geo_of.Goals as goal

@@ -1,7 +1,6 @@
 -- `leading_dims` meets its contract: the four cases.
 -- Assumes nothing.
 use native.Mathlib.Omega.{arith}
-use borrow.Author.Rules.{rules}
 use Rattle.geo.proofs.DimsLaws.{rank_limits, three_of_1, three_of_2, three_of_3, three_of_4}
 use Rattle.geo.proofs.leading_dims.Goals as goal
 

@@ -3,7 +3,6 @@
 use mathlib.Core.Path.{ap}
 use Prim.Native.Nat.{ℕ, ◌-◌, ◌/◌}
 use native.Mathlib.Omega.{arith}
-use borrow.Author.Rules.{rules}
 use Rattle.frame.specs.Structure.{on}
 use Rattle.geo.proofs.LeftLaws.{power_three}
 use Rattle.geo.proofs.left_byte.Goals as goal

@@ -1,15 +1,10 @@
 -- `lopsided` meets its contract: no byte before i differs from its opposite, and half of the bytes decide.
 -- Assumes nothing.
-use mathlib.Core.Path.{◌≡◌, refl}
+use mathlib.Core.Path.{◌≡◌}
 use mathlib.Core.Bool.{false}
 use Prim.Native.Nat.{◌+◌, ◌-◌, ◌≤◌, ◌^◌}
-use native.Mathlib.Omega.{arith}
-use borrow.Author.Rules.{rules}
-use Rattle.frame.specs.Structure.{on}
 use Rattle.frame.specs.ChainRule.{any}
 use Rattle.frame.specs.Causes.{unlike}
-use Rattle.geo.proofs.LeftLaws.{power_three}
-use Rattle.geo.proofs.LopsidedLaws.{pair_differs, pair_alike, pairs_alike}
 use Rattle.geo.proofs.lopsided.Given as goal
 
 abbrev pub invariant-loop-i : goal.invariant-loop-i

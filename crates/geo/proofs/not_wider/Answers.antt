@@ -1,13 +1,9 @@
 -- `not_wider` meets its contract: the left bytes are alike, no byte before i is dropped, and at the end all were looked at.
 -- Assumes nothing.
-use mathlib.Core.Path.{◌≡◌, refl, ◌∙◌}
-use mathlib.Core.Bool.{false}
-use Prim.Native.Nat.{◌-◌, ◌≤◌, ◌^◌}
+use mathlib.Core.Path.{refl, ◌∙◌}
 use native.Mathlib.Omega.{arith}
-use borrow.Author.Rules.{rules}
 use Rattle.frame.specs.Structure.{on}
 use Rattle.frame.specs.ChainRule.{any}
-use Rattle.frame.specs.Causes.{left_differs, dropped}
 use Rattle.geo.proofs.WiderLaws.{left_test, left_tells, drop_tells, one_more_kept, all_kept}
 use Rattle.geo.proofs.not_wider.Goals as goal
 

@@ -1,11 +1,7 @@
 -- `shape_of` meets its contract. The loop's invariant: the first `i` entries are copied.
 -- Assumes nothing.
-use mathlib.Core.Path.{◌≡◌}
-use Prim.Native.Nat.{◌-◌, ◌≤◌}
 use native.Mathlib.Omega.{arith}
-use borrow.Author.Rules.{rules}
-use lib.ListN.{length}
-use Rattle.geo.proofs.CopyLaws.{front, front_turn, front_done}
+use Rattle.geo.proofs.CopyLaws.{front_done}
 use Rattle.geo.proofs.shape_of.Goals as goal
 
 pub returns : goal.returns

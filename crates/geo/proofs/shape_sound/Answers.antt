@@ -4,7 +4,7 @@ use borrow.Author.Rules.{rules}
 use mathlib.Core.Path.{sym, ap₂, ◌∙◌}
 use mathlib.Core.Bool.{◌||◌, true≢false}
 use Rattle.geo.proofs.DimsLaws.{rank_limits}
-use Rattle.geo.proofs.ShapeSoundLaws.{rank_test, array_ready, rank_breaks, dims_break, found_limits, found_geo, rest_decides}
+use Rattle.geo.proofs.ShapeSoundLaws.{rank_test, array_ready, rank_breaks, dims_break, found_geo, rest_decides}
 use Rattle.geo.proofs.shape_sound.Goals as goal
 
 pub returns-then-bad_rank : goal.returns-then-bad_rank

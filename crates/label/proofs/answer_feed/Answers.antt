@@ -1,7 +1,6 @@
 -- `answer_feed` meets its contract: what the check found decides what is said.
 -- Assumes nothing.
 use mathlib.Core.Path.{refl}
-use borrow.Author.Rules.{rules}
 use Rattle.label.proofs.RefusedLaws.{says_cause, says_done}
 use Rattle.label.proofs.answer_feed.Goals as goal
 

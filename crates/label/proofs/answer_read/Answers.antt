@@ -1,8 +1,7 @@
 -- `answer_read` meets its contract: what the check found decides what is said.
 -- Assumes nothing.
 use mathlib.Core.Path.{refl}
-use borrow.Author.Rules.{rules}
-use Rattle.label.proofs.RefusedLaws.{passes, says_cause, says_done}
+use Rattle.label.proofs.RefusedLaws.{says_cause, says_done}
 use Rattle.label.proofs.answer_read.Goals as goal
 
 pub returns-in-Failed : goal.returns-in-Failed

@@ -1,7 +1,7 @@
 -- `coords` meets its contract: from the last dimension on.
 -- Assumes nothing.
 use borrow.Author.Rules.{rules}
-use Rattle.link.proofs.CoordinateLaws.{last_pos, middle_pos, first_fits, middle_fits, last_fits, coords_right}
+use Rattle.link.proofs.CoordinateLaws.{last_pos, middle_pos, coords_right}
 use Rattle.link.proofs.coords.Goals as goal
 
 pub nonzero_div-r : goal.nonzero_div-r

@@ -1,8 +1,5 @@
 -- `link_lines` meets its contract: the runs' words are lent to `sweep::link` as a part, and come back.
 -- Assumes nothing.
-use Prim.Native.Nat.{◌+◌}
-use native.Mathlib.Omega.{arith}
-use borrow.Author.Rules.{rules}
 use Rattle.link.proofs.PartLaws.{lent_lines, lent_back}
 use Rattle.link.proofs.link_lines.Goals as goal
 

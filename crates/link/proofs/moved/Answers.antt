@@ -1,7 +1,6 @@
 -- `moved` meets its contract, in natural numbers.
 -- Assumes nothing.
-use borrow.Author.Rules.{rules}
-use Rattle.link.proofs.MoveLaws.{inside_fits, inside_cast, inside_moved, outside_moved}
+use Rattle.link.proofs.MoveLaws.{inside_moved, outside_moved}
 use Rattle.link.proofs.moved.Goals as goal
 
 pub returns-then-v-d : goal.returns-then-v-d

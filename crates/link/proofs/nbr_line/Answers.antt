@@ -3,8 +3,7 @@
 use mathlib.Core.Path.{◌≡◌}
 use borrow.Author.Rules.{rules}
 use lib.ListN.{length}
-use Rattle.link.proofs.MoveLaws.{move_back}
-use Rattle.link.proofs.NbrLineLaws.{outside, fits_first, fits_row, fits_rows, fits_all, at_line}
+use Rattle.link.proofs.NbrLineLaws.{outside, fits_rows, fits_all, at_line}
 use Rattle.link.proofs.nbr_line.Goals as goal
 
 pub overflow_mul-result-then-v0-d0 : goal.overflow_mul-result-then-v0-d0

@@ -1,6 +1,6 @@
 -- `union_by` meets its contract: by an offset that is not used, or leads out of the frame, there is no touch.
 -- Assumes nothing.
-use mathlib.Core.Path.{◌≡◌, sym, ◌∙◌, subst}
+use mathlib.Core.Path.{◌≡◌, sym, subst}
 use mathlib.Core.List.{List}
 use borrow.Author.Rules.{rules}
 use lib.ListN.{length}

@@ -2,7 +2,7 @@
 -- Assumes nothing.
 use mathlib.Core.Path.{◌≡◌, sym, ap, ◌∙◌, subst}
 use mathlib.Core.List.{List}
-use Prim.Native.Nat.{ℕ, ◌+◌, ◌-◌, ◌/◌, ◌^◌, ◌≤◌}
+use Prim.Native.Nat.{ℕ, ◌+◌, ◌/◌, ◌^◌}
 use native.Mathlib.Numerals.{add-one}
 use native.Mathlib.Omega.{arith}
 use borrow.Author.Rules.{rules}
@@ -10,7 +10,7 @@ use lib.ListN.{length}
 use Rattle.groups.specs.Groups.{Edge, gather}
 use Rattle.frame.specs.Words.{line_start}
 use Rattle.link.specs.Lines.{UnitedIn, touches_by_in, runs_to}
-use Rattle.link.proofs.PartLaws.{in_none, in_ready, in_long}
+use Rattle.link.proofs.PartLaws.{in_none, in_ready}
 use Rattle.link.proofs.LineTouchLaws.{no_touches, touches_more, touches_all, joins_most}
 use Rattle.link.proofs.union_line.Goals as goal
 

@@ -1,17 +1,8 @@
 -- `union_line` meets its contract. The loop's invariant: the touches by the codes before this one are united.
 -- Assumes nothing.
-use mathlib.Core.Path.{◌≡◌, sym, ap, ◌∙◌, subst}
-use mathlib.Core.List.{List}
-use Prim.Native.Nat.{ℕ, ◌+◌, ◌-◌, ◌/◌, ◌^◌, ◌≤◌}
-use native.Mathlib.Numerals.{add-one}
-use native.Mathlib.Omega.{arith}
-use borrow.Author.Rules.{rules}
-use lib.ListN.{length}
-use Rattle.groups.specs.Groups.{Edge, gather}
-use Rattle.frame.specs.Words.{line_start}
+use Prim.Native.Nat.{◌-◌, ◌≤◌}
+use Rattle.groups.specs.Groups.{gather}
 use Rattle.link.specs.Lines.{UnitedIn, touches_by_in, runs_to}
-use Rattle.link.proofs.PartLaws.{in_none, in_ready, in_long}
-use Rattle.link.proofs.LineTouchLaws.{no_touches, touches_more, touches_all, joins_most}
 use Rattle.link.proofs.union_line.Given as goal
 
 abbrev pub invariant-loop-code : goal.invariant-loop-code

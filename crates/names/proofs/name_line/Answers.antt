@@ -1,8 +1,6 @@
 -- `name_line` meets its contract. The loop's invariant: the line's runs before r are named.
 -- Assumes nothing.
-use Prim.Native.Nat.{◌-◌}
-use borrow.Author.Rules.{rules}
-use Rattle.names.proofs.NameLaws.{now_long, NamedTo, line_begins, run_asked, line_turn, line_named}
+use Rattle.names.proofs.NameLaws.{run_asked, line_turn}
 use Rattle.names.proofs.name_line.Goals as goal
 
 pub name_run-named-requires : goal.name_run-named-requires

@@ -1,8 +1,7 @@
 -- `name_line` meets its contract. The loop's invariant: the line's runs before r are named.
 -- Assumes nothing.
 use Prim.Native.Nat.{◌-◌}
-use borrow.Author.Rules.{rules}
-use Rattle.names.proofs.NameLaws.{now_long, NamedTo, line_begins, run_asked, line_turn, line_named}
+use Rattle.names.proofs.NameLaws.{NamedTo}
 use Rattle.names.proofs.name_line.Given as goal
 
 abbrev pub invariant-loop-r : goal.invariant-loop-r

@@ -1,9 +1,7 @@
 -- `name_run` meets its contract.
 -- Assumes nothing.
 use native.Mathlib.Omega.{arith}
-use borrow.Author.Rules.{rules}
-use lib.ListN.{length-set}
-use Rattle.names.proofs.NameLaws.{count_low, parent_low, count_fits, name_turn}
+use Rattle.names.proofs.NameLaws.{count_low, name_turn}
 use Rattle.names.proofs.name_run.Goals as goal
 
 pub overflow_add-words : goal.overflow_add-words

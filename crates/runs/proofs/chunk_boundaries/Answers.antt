@@ -3,7 +3,6 @@
 use mathlib.Core.Path.{sym, subst}
 use Rattle.runs.specs.Boundaries.{BoundaryRoom, Put}
 use Rattle.runs.proofs.ChunkLaws.{chunk_edges, chunk_alone}
-use borrow.Author.Rules.{rules}
 use Rattle.runs.proofs.chunk_boundaries.Goals as goal
 
 pub edges-requires : goal.edges-requires

@@ -1,8 +1,6 @@
 -- `chunk_cells` meets its contract.
 -- Assumes nothing.
 use native.Mathlib.Omega.{arith}
-use borrow.Author.Rules.{rules}
-use lib.Count.{ones-le}
 use Rattle.runs.proofs.ChunkCellLaws.{edgeless_ones}
 use Rattle.runs.proofs.chunk_cells.Goals as goal
 

@@ -1,15 +1,10 @@
 -- `chunk_f32` meets its contract: after each turn the first i cells are shown, in the inner loop j more, and the bytes after them are zero.
 -- Assumes nothing.
-use Prim.Native.Nat.{ℕ, ◌+◌, ◌-◌, ◌%◌, ◌≤◌}
-use mathlib.Core.Path.{◌≡◌, refl, ap, ◌∙◌, subst}
-use mathlib.Core.Bool.{false}
+use Prim.Native.Nat.{◌+◌, ◌-◌, ◌%◌, ◌≤◌}
+use mathlib.Core.Path.{◌≡◌}
 use mathlib.Core.List.{map}
-use native.Mathlib.Omega.{arith}
-use lib.Ieee.{nan}
-use lib.ListN.{get_or, set}
-use mir.Val.{bool_byte}
 use Rattle.frame.specs.Kinds.{nz_f}
-use Rattle.runs.proofs.CopyLaws.{Copied, copy_none, copy_turn, copy_all, flag_of, nz_byte}
+use Rattle.runs.proofs.CopyLaws.{Copied}
 use Rattle.runs.proofs.chunk_f32.Given as goal
 
 abbrev pub invariant-loop-j : goal.invariant-loop-j

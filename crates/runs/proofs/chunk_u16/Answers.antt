@@ -1,12 +1,10 @@
 -- `chunk_u16` meets its contract: after each turn the first i cells are shown, and the bytes after them are zero.
 -- Assumes nothing.
-use Prim.Native.Nat.{◌+◌, ◌-◌, ◌≤◌}
+use Prim.Native.Nat.{◌+◌}
 use mathlib.Core.Path.{◌∙◌}
-use mathlib.Core.List.{map}
 use native.Mathlib.Omega.{arith}
-use borrow.Author.Rules.{rules}
 use Rattle.frame.specs.Kinds.{nz}
-use Rattle.runs.proofs.CopyLaws.{Copied, copy_none, copy_turn, copy_all, flag_of, nz_byte}
+use Rattle.runs.proofs.CopyLaws.{copy_none, copy_turn, flag_of, nz_byte}
 use Rattle.runs.proofs.chunk_u16.Goals as goal
 
 pub loop-i-init : goal.loop-i-init

@@ -1,12 +1,9 @@
 -- `chunk_u16` meets its contract: after each turn the first i cells are shown, and the bytes after them are zero.
 -- Assumes nothing.
-use Prim.Native.Nat.{◌+◌, ◌-◌, ◌≤◌}
-use mathlib.Core.Path.{◌∙◌}
+use Prim.Native.Nat.{◌-◌, ◌≤◌}
 use mathlib.Core.List.{map}
-use native.Mathlib.Omega.{arith}
-use borrow.Author.Rules.{rules}
 use Rattle.frame.specs.Kinds.{nz}
-use Rattle.runs.proofs.CopyLaws.{Copied, copy_none, copy_turn, copy_all, flag_of, nz_byte}
+use Rattle.runs.proofs.CopyLaws.{Copied}
 use Rattle.runs.proofs.chunk_u16.Given as goal
 
 abbrev pub invariant-loop-i : goal.invariant-loop-i

@@ -4,7 +4,7 @@ use Prim.Native.Nat.{◌+◌}
 use mathlib.Core.Path.{◌≡◌, refl}
 use native.Mathlib.Omega.{arith}
 use Rattle.runs.specs.Boundaries.{places}
-use Rattle.runs.proofs.BoundaryLaws.{Rest, rest_all, rest_same, rest_took, rest_next, rest_none}
+use Rattle.runs.proofs.BoundaryLaws.{Rest, rest_same, rest_took, rest_none}
 use Rattle.runs.proofs.MaskLaws.{no_place}
 use Rattle.runs.proofs.edges.Goals as goal
 

@@ -1,11 +1,7 @@
 -- `edges` meets its contract: the places of the bits that are left are the boundaries that are left to write.
 -- Assumes nothing.
-use Prim.Native.Nat.{◌+◌}
-use mathlib.Core.Path.{◌≡◌, refl}
-use native.Mathlib.Omega.{arith}
 use Rattle.runs.specs.Boundaries.{places}
-use Rattle.runs.proofs.BoundaryLaws.{Rest, rest_all, rest_same, rest_took, rest_next, rest_none}
-use Rattle.runs.proofs.MaskLaws.{no_place}
+use Rattle.runs.proofs.BoundaryLaws.{Rest}
 use Rattle.runs.proofs.edges.Given as goal
 
 abbrev pub invariant-loop-e : goal.invariant-loop-e

@@ -1,12 +1,9 @@
 -- `extract_line_i16` meets its contract: after each turn the boundaries from column x on are left to be written, the cells to be counted.
 -- Assumes nothing.
-use Prim.Native.Nat.{◌-◌}
-use mathlib.Core.List.{map}
 use native.Mathlib.Omega.{arith}
-use lib.ListN.{length, length-map}
+use lib.ListN.{length-map}
 use Rattle.frame.specs.Kinds.{nzℤ}
-use Rattle.runs.proofs.PutLaws.{extracted_long}
-use Rattle.runs.proofs.ChunkLaws.{Going, going_begin, going_fits, going_sum, going_turn, going_end}
+use Rattle.runs.proofs.ChunkLaws.{going_begin, going_fits, going_sum, going_turn, going_end}
 use Rattle.runs.proofs.extract_line_i16.Goals as goal
 
 pub returns : goal.returns

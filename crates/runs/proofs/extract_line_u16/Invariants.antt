@@ -2,11 +2,9 @@
 -- Assumes nothing.
 use Prim.Native.Nat.{◌-◌}
 use mathlib.Core.List.{map}
-use native.Mathlib.Omega.{arith}
-use lib.ListN.{length, length-map}
+use lib.ListN.{length}
 use Rattle.frame.specs.Kinds.{nz}
-use Rattle.runs.proofs.PutLaws.{extracted_long}
-use Rattle.runs.proofs.ChunkLaws.{Going, going_begin, going_fits, going_sum, going_turn, going_end}
+use Rattle.runs.proofs.ChunkLaws.{Going}
 use Rattle.runs.proofs.extract_line_u16.Given as goal
 
 abbrev pub invariant-loop-x : goal.invariant-loop-x

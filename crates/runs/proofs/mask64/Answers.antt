@@ -1,14 +1,9 @@
 -- `mask64` meets its contract: after each turn m is the mask of the first j bytes.
 -- Assumes nothing.
-use Prim.Native.Nat.{ℕ, ◌-◌, ◌%◌, ◌≤◌}
-use mathlib.Core.Path.{◌≡◌, refl, ap, ◌∙◌}
-use mathlib.Core.Bool.{Bool}
-use mathlib.Core.List.{List, map}
+use mathlib.Core.Path.{refl}
 use native.Mathlib.Omega.{arith}
-use lib.ListN.{drop}
-use Rattle.frame.specs.Kinds.{nz}
-use Rattle.runs.specs.Masks.{mask_of, Weighs}
-use Rattle.runs.proofs.MaskLaws.{mask_lt, byte_turn}
+use Rattle.runs.specs.Masks.{mask_of}
+use Rattle.runs.proofs.MaskLaws.{byte_turn}
 use Rattle.runs.proofs.mask64.Goals as goal
 
 pub loop-j-init : goal.loop-j-init

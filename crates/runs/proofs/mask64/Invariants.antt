@@ -1,14 +1,10 @@
 -- `mask64` meets its contract: after each turn m is the mask of the first j bytes.
 -- Assumes nothing.
-use Prim.Native.Nat.{ℕ, ◌-◌, ◌%◌, ◌≤◌}
-use mathlib.Core.Path.{◌≡◌, refl, ap, ◌∙◌}
+use Prim.Native.Nat.{◌-◌, ◌%◌, ◌≤◌}
+use mathlib.Core.Path.{◌≡◌}
 use mathlib.Core.Bool.{Bool}
-use mathlib.Core.List.{List, map}
-use native.Mathlib.Omega.{arith}
-use lib.ListN.{drop}
-use Rattle.frame.specs.Kinds.{nz}
+use mathlib.Core.List.{List}
 use Rattle.runs.specs.Masks.{mask_of, Weighs}
-use Rattle.runs.proofs.MaskLaws.{mask_lt, byte_turn}
 use Rattle.runs.proofs.mask64.Given as goal
 
 abbrev pub invariant-loop-j : goal.invariant-loop-j

@@ -1,14 +1,11 @@
 -- `mask8` meets its contract: after each turn s is the mask of the first i bytes from j on.
 -- Assumes nothing.
-use Prim.Native.Nat.{ℕ, ◌+◌, ◌-◌, ◌≤◌}
-use mathlib.Core.Path.{◌≡◌, refl, ap, ◌∙◌}
+use Prim.Native.Nat.{◌-◌, ◌≤◌}
+use mathlib.Core.Path.{◌≡◌}
 use mathlib.Core.Bool.{Bool}
 use mathlib.Core.List.{List}
-use native.Mathlib.Omega.{arith}
-use lib.ListN.{drop, get_or}
-use lib.Pow.{pow_mono}
+use lib.ListN.{drop}
 use Rattle.runs.specs.Masks.{mask_of, Weighs}
-use Rattle.runs.proofs.MaskLaws.{mask_lt, eight_turn}
 use Rattle.runs.proofs.mask8.Given as goal
 
 abbrev pub invariant-loop-i : goal.invariant-loop-i

@@ -4,7 +4,6 @@ use mathlib.Core.Path.{◌∙◌}
 use mathlib.Core.List.{map}
 use Rattle.frame.specs.Kinds.{nz_f}
 use Rattle.runs.proofs.MaskLaws.{shows_mask}
-use borrow.Author.Rules.{rules}
 use Rattle.runs.proofs.mask_f32.Goals as goal
 
 pub returns-then-n-eq64 : goal.returns-then-n-eq64

@@ -2,7 +2,6 @@
 -- Assumes nothing.
 use mathlib.Core.Path.{◌∙◌}
 use mathlib.Core.List.{map}
-use borrow.Author.Rules.{rules}
 use Rattle.frame.specs.Kinds.{nzℤ}
 use Rattle.runs.proofs.MaskLaws.{shows_mask}
 use Rattle.runs.proofs.mask_i16.Goals as goal

@@ -1,13 +1,11 @@
 -- `pad_f32` meets its contract: after each turn the first i cells are shown, and the bytes after them are zero.
 -- Assumes nothing.
-use Prim.Native.Nat.{◌+◌, ◌-◌, ◌≤◌}
+use Prim.Native.Nat.{◌+◌}
 use mathlib.Core.Path.{◌∙◌}
-use mathlib.Core.List.{map}
 use native.Mathlib.Omega.{arith}
-use borrow.Author.Rules.{rules}
 use lib.Ieee.{nan}
 use Rattle.frame.specs.Kinds.{nz_f}
-use Rattle.runs.proofs.CopyLaws.{Copied, copy_none, copy_turn, copy_all, flag_of, nz_byte}
+use Rattle.runs.proofs.CopyLaws.{copy_none, copy_turn, flag_of, nz_byte}
 use Rattle.runs.proofs.pad_f32.Goals as goal
 
 pub loop-i-init : goal.loop-i-init

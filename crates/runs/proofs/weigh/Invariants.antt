@@ -1,14 +1,11 @@
 -- `weigh` meets its contract: after each turn the first i weights stand.
 -- Assumes nothing.
 use Prim.Native.Nat.{◌-◌, ◌≤◌}
-use mathlib.Core.Path.{◌≡◌, refl, ◌∙◌}
+use mathlib.Core.Path.{◌≡◌}
 use mathlib.Core.List.{map}
-use native.Mathlib.Omega.{arith}
-use lib.ListN.{length, length-set, get_or}
-use borrow.Author.Rules.{rules}
+use lib.ListN.{length}
 use Rattle.frame.specs.Kinds.{nz}
 use Rattle.runs.specs.Masks.{Weighs}
-use Rattle.runs.proofs.MaskLaws.{flag_at, weigh_turn}
 use Rattle.runs.proofs.weigh.Given as goal
 
 abbrev pub invariant-loop-i : goal.invariant-loop-i

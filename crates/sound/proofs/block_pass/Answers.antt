@@ -1,9 +1,8 @@
 -- `block_pass` meets its contract. The loop's invariant: what has been found of the runs before r.
 -- Assumes nothing.
-use Rattle.std.proofs.Common.{◌+◌, ◌-◌, ◌*◌, arith, rules}
-use Rattle.frame.specs.Words.{size_place}
-use Rattle.sound.proofs.TestLaws.{byte_le, bits-le, byte_fits, times_fits}
-use Rattle.sound.proofs.RunPassLaws.{BlockTo, block_none, block_more, wrong_few, roots_few, sizes_small, block_done}
+use Rattle.std.proofs.Common.{arith}
+use Rattle.sound.proofs.TestLaws.{byte_le, byte_fits}
+use Rattle.sound.proofs.RunPassLaws.{block_more, wrong_few, roots_few, sizes_small}
 use Rattle.sound.proofs.block_pass.Goals as goal
 
 pub overflow_add-wrong : goal.overflow_add-wrong

@@ -1,10 +1,9 @@
 -- `lines_pass` meets its contract. The loop's invariant: what has been found of the lines before i.
 -- Assumes nothing.
-use Rattle.std.proofs.Common.{◌+◌, ◌-◌, ◌≤◌, inl, inr, arith, rules}
-use Rattle.frame.specs.Words.{line_start, start_place, end_place}
+use Rattle.std.proofs.Common.{arith}
 use Rattle.sound.proofs.TestLaws.{byte_le, byte_gap, byte_fits}
-use Rattle.sound.proofs.LinePassLaws.{LinesTo, lines_none, falls_few, lines_done, line_wrong, in_turn}
-use Rattle.sound.proofs.LinePassLaws.{lines_empty, line_wide, lines_more}
+use Rattle.sound.proofs.LinePassLaws.{lines_none, falls_few, lines_done, line_wrong}
+use Rattle.sound.proofs.LinePassLaws.{lines_empty, lines_more}
 use Rattle.sound.proofs.lines_pass.Goals as goal
 use Rattle.sound.proofs.lines_pass.Goals.{then-a-b+else-end-g, else-a-b}
 

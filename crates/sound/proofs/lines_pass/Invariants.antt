@@ -1,10 +1,7 @@
 -- `lines_pass` meets its contract. The loop's invariant: what has been found of the lines before i.
 -- Assumes nothing.
-use Rattle.std.proofs.Common.{◌+◌, ◌-◌, ◌≤◌, inl, inr, arith, rules}
-use Rattle.frame.specs.Words.{line_start, start_place, end_place}
-use Rattle.sound.proofs.TestLaws.{byte_le, byte_gap, byte_fits}
-use Rattle.sound.proofs.LinePassLaws.{LinesTo, lines_none, falls_few, lines_done, line_wrong, in_turn}
-use Rattle.sound.proofs.LinePassLaws.{lines_empty, line_wide, lines_more}
+use Rattle.std.proofs.Common.{◌-◌}
+use Rattle.sound.proofs.LinePassLaws.{LinesTo}
 use Rattle.sound.proofs.lines_pass.Given as goal
 
 abbrev pub invariant-loop-i : goal.invariant-loop-i

@@ -1,7 +1,7 @@
 -- `runs_pass` meets its contract. The loop's invariant: what has been found of the runs before r.
 -- Assumes nothing.
-use Rattle.std.proofs.Common.{◌+◌, ◌-◌, ◌<◌, ◌≤◌, inl, inr, arith, rules}
-use Rattle.sound.proofs.RunPassLaws.{RunsTo, runs_none, runs_done}
+use Rattle.std.proofs.Common.{arith}
+use Rattle.sound.proofs.RunPassLaws.{runs_none}
 use Rattle.sound.proofs.runs_pass.Goals as goal
 
 pub loop-r-init : goal.loop-r-init

@@ -1,7 +1,7 @@
 -- `runs_pass` meets its contract. The loop's invariant: what has been found of the runs before r.
 -- Assumes nothing.
-use Rattle.std.proofs.Common.{◌+◌, ◌-◌, ◌<◌, ◌≤◌, inl, inr, arith, rules}
-use Rattle.sound.proofs.RunPassLaws.{RunsTo, runs_none, runs_done}
+use Rattle.std.proofs.Common.{◌-◌}
+use Rattle.sound.proofs.RunPassLaws.{RunsTo}
 use Rattle.sound.proofs.runs_pass.Given as goal
 
 abbrev pub invariant-loop-r : goal.invariant-loop-r

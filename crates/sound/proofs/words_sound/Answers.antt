@@ -1,7 +1,6 @@
 -- `words_sound` meets its contract.
 -- Assumes nothing.
-use Rattle.std.proofs.Common.{arith, rules}
-use Rattle.sound.proofs.ReadyLaws.{product_small, runs_ready, lines_ready}
+use Rattle.sound.proofs.ReadyLaws.{lines_ready}
 use Rattle.sound.proofs.RunPassLaws.{roots_few}
 use Rattle.sound.proofs.PassLaws.{start_wrong, lines_wrong, answer}
 use Rattle.sound.proofs.words_sound.Goals as goal

@@ -1,10 +1,8 @@
 -- `sweep::link` meets its contract. The two shifted sweeps visit a pair twice where both bytes join it; the contract lists it once.
 -- Assumes nothing.
-use mathlib.Core.Logic.{inl, inr}
 use native.Mathlib.Nat.{zero-add}
 use native.Mathlib.Omega.{arith}
-use borrow.Author.Rules.{rules}
-use Rattle.sweep.proofs.ShiftLaws.{byte_wide, byte_le}
+use Rattle.sweep.proofs.ShiftLaws.{byte_wide}
 use Rattle.sweep.proofs.TurnLaws.{lines_kept}
 use Rattle.sweep.proofs.SideLaws.{Side, side_on, side_off, link_idle, link_widened, linked_both, linked_one, link_few}
 use Rattle.sweep.proofs.link.Goals as goal

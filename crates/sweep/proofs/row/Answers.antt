@@ -1,15 +1,9 @@
 -- `sweep::row` meets its contract. The loop's invariant: run `i` was united with the runs from `j` to before `m` that start before it ends.
 -- Assumes nothing.
 use mathlib.Core.Path.{sym, ◌∙◌}
-use Prim.Native.Nat.{◌-◌}
 use native.Mathlib.Omega.{arith}
-use borrow.Author.Rules.{rules}
-use mir.Syntax.{w64}
-use mir.Val.{to_z}
-use Rattle.frame.specs.Structure.{digit}
 use Rattle.sweep.proofs.SignedLaws.{off_back}
-use Rattle.sweep.proofs.ShiftLaws.{off_le}
-use Rattle.sweep.proofs.TurnLaws.{RowTo, row_begins, row_sized, row_turn, row_done}
+use Rattle.sweep.proofs.TurnLaws.{row_begins, row_sized, row_turn, row_done}
 use Rattle.sweep.proofs.row.Goals as goal
 
 pub loop-m-init : goal.loop-m-init

@@ -1,16 +1,9 @@
 -- `sweep::skip` meets its contract. The loop's invariant: the runs from `j` to before `m` end by the start of run `i`.
 -- Assumes nothing.
-use mathlib.Core.Path.{sym, ◌∙◌}
 use Prim.Native.Nat.{◌-◌}
-use native.Mathlib.Omega.{arith}
-use borrow.Author.Rules.{rules}
-use mir.Syntax.{w64}
-use mir.Val.{to_z}
 use Rattle.frame.specs.Structure.{digit}
 use Rattle.sweep.specs.Sweeps.{run_in}
-use Rattle.sweep.proofs.SignedLaws.{off_back}
-use Rattle.sweep.proofs.ShiftLaws.{off_le}
-use Rattle.sweep.proofs.TurnLaws.{SkipTo, skip_begins, skip_turn, skip_done}
+use Rattle.sweep.proofs.TurnLaws.{SkipTo}
 use Rattle.sweep.proofs.skip.Given as goal
 
 abbrev pub invariant-loop-m : goal.invariant-loop-m

@@ -1,15 +1,9 @@
 -- `sweep::sweep` meets its contract. The loop's invariant: the current runs before `i` were swept, and the neighbours before `j` end by
 -- the start of run `i`.
 -- Assumes nothing.
-use Prim.Native.Nat.{◌-◌}
 use native.Mathlib.Omega.{arith}
-use borrow.Author.Rules.{rules}
-use mir.Syntax.{w64}
-use mir.Val.{to_z}
-use Rattle.frame.specs.Structure.{digit}
-use Rattle.sweep.proofs.SignedLaws.{off_back}
 use Rattle.sweep.proofs.ShiftLaws.{off_le}
-use Rattle.sweep.proofs.TurnLaws.{SweepTo, sweep_begins, skip_asked, row_asked, sweep_turn, sweep_few, sweep_done}
+use Rattle.sweep.proofs.TurnLaws.{sweep_begins, row_asked, sweep_turn, sweep_few}
 use Rattle.sweep.proofs.sweep.Goals as goal
 
 pub loop-i-init : goal.loop-i-init

@@ -2,14 +2,8 @@
 -- the start of run `i`.
 -- Assumes nothing.
 use Prim.Native.Nat.{◌-◌}
-use native.Mathlib.Omega.{arith}
-use borrow.Author.Rules.{rules}
-use mir.Syntax.{w64}
-use mir.Val.{to_z}
 use Rattle.frame.specs.Structure.{digit}
-use Rattle.sweep.proofs.SignedLaws.{off_back}
-use Rattle.sweep.proofs.ShiftLaws.{off_le}
-use Rattle.sweep.proofs.TurnLaws.{SweepTo, sweep_begins, skip_asked, row_asked, sweep_turn, sweep_few, sweep_done}
+use Rattle.sweep.proofs.TurnLaws.{SweepTo}
 use Rattle.sweep.proofs.sweep.Given as goal
 
 abbrev pub invariant-loop-i : goal.invariant-loop-i

@@ -1,11 +1,8 @@
 -- `eight_u8` meets its contract. The loop's invariant: the first i of the eight cells are filled.
 -- Assumes nothing.
 use Prim.Native.Nat.{◌+◌, ◌≤◌, ◌-◌}
-use native.Mathlib.Omega.{arith}
-use borrow.Author.Rules.{rules}
 use Rattle.frame.specs.Kinds.{u8}
 use Rattle.write.specs.Steps.{Filled}
-use Rattle.write.proofs.PaintLaws.{filled_none, filled_more, filled_end}
 use Rattle.write.proofs.eight_u8.Given as goal
 
 abbrev pub invariant-loop-i : goal.invariant-loop-i

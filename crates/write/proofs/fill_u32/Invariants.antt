@@ -1,13 +1,8 @@
 -- `fill_u32` meets its contract. The loop's invariant: the cells a to before x are filled.
 -- Assumes nothing.
 use Prim.Native.Nat.{◌≤◌, ◌-◌, max}
-use mathlib.Core.Path.{refl}
-use native.Mathlib.Nat.{le_refl}
-use native.Mathlib.Omega.{arith}
-use borrow.Author.Rules.{rules}
 use Rattle.frame.specs.Kinds.{u32}
 use Rattle.write.specs.Steps.{Filled}
-use Rattle.write.proofs.PaintLaws.{filled_none, filled_more, filled_end}
 use Rattle.write.proofs.fill_u32.Given as goal
 
 abbrev pub invariant-loop-x : goal.invariant-loop-x

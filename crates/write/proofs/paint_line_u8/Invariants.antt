@@ -1,11 +1,8 @@
 -- `paint_line_u8` meets its contract. The loop's invariant: the line's runs before r are painted.
 -- Assumes nothing.
-use mathlib.Core.Path.{◌∙◌}
 use Prim.Native.Nat.{◌-◌}
-use native.Mathlib.Omega.{arith}
-use borrow.Author.Rules.{rules}
-use Rattle.frame.specs.Kinds.{u8, largest}
-use Rattle.write.proofs.LineLaws.{PaintedTo, paint_begins, run_words, name_fits, cells_asked, paint_turn, line_painted}
+use Rattle.frame.specs.Kinds.{u8}
+use Rattle.write.proofs.LineLaws.{PaintedTo}
 use Rattle.write.proofs.paint_line_u8.Given as goal
 
 abbrev pub invariant-loop-r : goal.invariant-loop-r

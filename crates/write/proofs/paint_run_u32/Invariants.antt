@@ -1,12 +1,8 @@
 -- `paint_run_u32` meets its contract. The loop's invariant: the cells s to before x are filled, and x is fewer than eight cells past e.
 -- Assumes nothing.
 use Prim.Native.Nat.{◌+◌, ◌≤◌, ◌<◌, ◌-◌}
-use native.Mathlib.Nat.{le_refl}
-use native.Mathlib.Omega.{arith}
-use borrow.Author.Rules.{rules}
 use Rattle.frame.specs.Kinds.{u32}
 use Rattle.write.specs.Steps.{Filled}
-use Rattle.write.proofs.PaintLaws.{filled_none, filled_then, painted_back}
 use Rattle.write.proofs.paint_run_u32.Given as goal
 
 abbrev pub invariant-loop-x : goal.invariant-loop-x

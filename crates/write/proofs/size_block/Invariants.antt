@@ -1,11 +1,7 @@
 -- `size_block` meets its contract. The loop's invariant: the runs before r are named, and the sizes of the roots among them copied.
 -- Assumes nothing.
-use mathlib.Core.Logic.{inl, inr}
 use Prim.Native.Nat.{◌-◌}
-use native.Mathlib.Omega.{arith}
-use borrow.Author.Rules.{rules}
-use Rattle.names.proofs.NameLaws.{now_long, count_low}
-use Rattle.write.proofs.SizeLaws.{SizesTo, sizes_begin, size_asked, size_words, size_put, size_skipped, size_turn, sizes_done}
+use Rattle.write.proofs.SizeLaws.{SizesTo}
 use Rattle.write.proofs.size_block.Given as goal
 
 abbrev pub invariant-loop-r : goal.invariant-loop-r

@@ -1,12 +1,8 @@
 -- `write_block_u8` meets its contract. The loop's invariant: the lines before this one are written.
 -- Assumes nothing.
-use mathlib.Core.Path.{◌∙◌}
 use Prim.Native.Nat.{◌-◌}
-use native.Mathlib.Omega.{arith}
-use borrow.Author.Rules.{rules}
 use Rattle.frame.specs.Kinds.{u8}
-use Rattle.names.proofs.NameLaws.{now_long}
-use Rattle.write.proofs.BlockLaws.{LinesTo, lines_begin, fed_room, lent_room, name_asked, paint_asked, lines_turn, lines_done}
+use Rattle.write.proofs.BlockLaws.{LinesTo}
 use Rattle.write.proofs.write_block_u8.Given as goal
 
 abbrev pub invariant-loop-line : goal.invariant-loop-line

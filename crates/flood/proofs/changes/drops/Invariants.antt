@@ -1,6 +1,6 @@
 -- `flood::changes::drops` is safe and ends.
 -- Assumes nothing.
-use Rattle.std.proofs.Common.{◌-◌, arith}
+use Rattle.std.proofs.Common.{◌-◌}
 use Rattle.flood.proofs.changes.drops.Given as goal
 
 abbrev pub invariant-loop-i : goal.invariant-loop-i

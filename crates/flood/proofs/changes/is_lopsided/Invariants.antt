@@ -1,6 +1,6 @@
 -- `flood::changes::is_lopsided` is safe and ends.
 -- Assumes nothing.
-use Rattle.std.proofs.Common.{◌-◌, arith}
+use Rattle.std.proofs.Common.{◌-◌}
 use Rattle.flood.proofs.changes.is_lopsided.Given as goal
 
 abbrev pub invariant-loop-i : goal.invariant-loop-i

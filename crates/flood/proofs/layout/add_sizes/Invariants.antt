@@ -1,6 +1,6 @@
 -- `flood::layout::add_sizes` is safe and ends. Slices lent keep their length.
 -- Assumes nothing.
-use Rattle.std.proofs.Common.{◌≡◌, ◌-◌, length, rules}
+use Rattle.std.proofs.Common.{◌≡◌, ◌-◌, length}
 use Rattle.flood.proofs.layout.add_sizes.Given as goal
 
 abbrev pub invariant-loop-run : goal.invariant-loop-run

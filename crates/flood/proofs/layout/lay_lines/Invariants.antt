@@ -1,6 +1,6 @@
 -- `flood::layout::lay_lines` is safe and ends.
 -- Assumes nothing.
-use Rattle.std.proofs.Common.{◌-◌, arith}
+use Rattle.std.proofs.Common.{◌-◌}
 use Rattle.flood.proofs.layout.lay_lines.Given as goal
 
 abbrev pub invariant-loop-line : goal.invariant-loop-line

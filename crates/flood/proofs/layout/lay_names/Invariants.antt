@@ -1,6 +1,6 @@
 -- `flood::layout::lay_names` is safe and ends.
 -- Assumes nothing.
-use Rattle.std.proofs.Common.{◌-◌, arith}
+use Rattle.std.proofs.Common.{◌-◌}
 use Rattle.flood.proofs.layout.lay_names.Given as goal
 
 abbrev pub invariant-loop-run : goal.invariant-loop-run

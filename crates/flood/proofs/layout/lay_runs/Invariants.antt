@@ -1,6 +1,6 @@
 -- `flood::layout::lay_runs` is safe and ends.
 -- Assumes nothing.
-use Rattle.std.proofs.Common.{◌-◌, arith}
+use Rattle.std.proofs.Common.{◌-◌}
 use Rattle.flood.proofs.layout.lay_runs.Given as goal
 
 abbrev pub invariant-loop-cell : goal.invariant-loop-cell

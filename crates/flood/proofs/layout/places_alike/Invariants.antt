@@ -1,6 +1,6 @@
 -- `flood::layout::places_alike` is safe and ends.
 -- Assumes nothing.
-use Rattle.std.proofs.Common.{◌-◌, arith}
+use Rattle.std.proofs.Common.{◌-◌}
 use Rattle.flood.proofs.layout.places_alike.Given as goal
 
 abbrev pub invariant-loop-i : goal.invariant-loop-i

@@ -1,6 +1,6 @@
 -- `flood::layout::root_of` is safe and ends.
 -- Assumes nothing.
-use Rattle.std.proofs.Common.{◌-◌, arith, rules}
+use Rattle.std.proofs.Common.{◌-◌}
 use Rattle.flood.proofs.layout.root_of.Given as goal
 
 abbrev pub invariant-loop-i : goal.invariant-loop-i

@@ -1,6 +1,6 @@
 -- `flood::layout::sum_lengths` is safe and ends.
 -- Assumes nothing.
-use Rattle.std.proofs.Common.{◌-◌, arith, rules}
+use Rattle.std.proofs.Common.{◌-◌}
 use Rattle.flood.proofs.layout.sum_lengths.Given as goal
 
 abbrev pub invariant-loop-run : goal.invariant-loop-run

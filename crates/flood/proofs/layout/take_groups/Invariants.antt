@@ -1,6 +1,6 @@
 -- `flood::layout::take_groups` is safe and ends.
 -- Assumes nothing.
-use Rattle.std.proofs.Common.{◌-◌, arith, rules}
+use Rattle.std.proofs.Common.{◌-◌}
 use Rattle.flood.proofs.layout.take_groups.Given as goal
 
 abbrev pub invariant-loop-run : goal.invariant-loop-run

@@ -1,6 +1,6 @@
 -- `flood::layout::words_alike` is safe and ends.
 -- Assumes nothing.
-use Rattle.std.proofs.Common.{◌-◌, arith}
+use Rattle.std.proofs.Common.{◌-◌}
 use Rattle.flood.proofs.layout.words_alike.Given as goal
 
 abbrev pub invariant-loop-i : goal.invariant-loop-i

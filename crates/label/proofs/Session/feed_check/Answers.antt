@@ -1,6 +1,5 @@
 -- `feed_check` meets its contract: a sound record is checked further, by its geometry.
 -- Assumes nothing.
-use borrow.Author.Rules.{rules}
 use Rattle.label.proofs.CheckLaws.{feed_unsound, feed_asked, feed_found}
 use Rattle.label.proofs.Session.feed_check.Goals as goal
 

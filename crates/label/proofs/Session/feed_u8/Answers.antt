@@ -1,6 +1,5 @@
 -- `feed_u8` meets its contract: refused, or extracted and united.
 -- Assumes nothing.
-use borrow.Author.Rules.{rules}
 use lib.ListN.{length-map}
 use Rattle.label.proofs.RefusedLaws.{failed_feed}
 use Rattle.label.proofs.FeedBlockLaws.{passed_room, passed_extracted, passed_feed}

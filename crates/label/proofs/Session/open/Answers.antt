@@ -1,6 +1,5 @@
 -- `open` meets its promise: it is refused with the number that its check finds, and else writes word 0 alone.
 -- Assumes nothing.
-use borrow.Author.Rules.{rules}
 use Rattle.label.proofs.AcceptedLaws.{passed_word, passed_short, passed_open}
 use Rattle.label.proofs.RefusedLaws.{failed_open}
 use Rattle.label.proofs.Session.open.Goals as goal

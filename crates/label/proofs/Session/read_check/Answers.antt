@@ -1,6 +1,5 @@
 -- `read_check` meets its contract: a sound record is checked further, by its geometry.
 -- Assumes nothing.
-use borrow.Author.Rules.{rules}
 use Rattle.label.proofs.FitLaws.{joins_fit}
 use Rattle.label.proofs.CheckLaws.{read_unsound, found_sound, read_asked, read_found}
 use Rattle.label.proofs.Session.read_check.Goals as goal

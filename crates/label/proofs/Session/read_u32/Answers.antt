@@ -1,7 +1,6 @@
 -- `read_u32` meets its contract: refused, or numbered.
 -- Assumes nothing.
 use mathlib.Core.Path.{refl}
-use borrow.Author.Rules.{rules}
 use Rattle.frame.specs.Kinds.{u32, largest}
 use Rattle.label.proofs.RefusedLaws.{failed_read}
 use Rattle.label.proofs.WrittenNumbers.{read_joins, passed_ready, passed_read}

@@ -1,6 +1,5 @@
 -- `sizes` meets its contract: refused, or counted.
 -- Assumes nothing.
-use borrow.Author.Rules.{rules}
 use Rattle.label.proofs.RefusedLaws.{failed_sizes}
 use Rattle.label.proofs.WrittenSizes.{sizes_joins, passed_counts, passed_sizes}
 use Rattle.label.proofs.Session.sizes.Goals as goal

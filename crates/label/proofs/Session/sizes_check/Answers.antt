@@ -1,6 +1,5 @@
 -- `sizes_check` meets its contract: a sound record is checked further, by its geometry.
 -- Assumes nothing.
-use borrow.Author.Rules.{rules}
 use Rattle.label.proofs.FitLaws.{joins_fit}
 use Rattle.label.proofs.CheckLaws.{sizes_unsound, found_sound, sizes_found}
 use Rattle.label.proofs.Session.sizes_check.Goals as goal

@@ -1,6 +1,5 @@
 -- `sound_check` meets its contract: the words are looked at where shape and memory are sound.
 -- Assumes nothing.
-use borrow.Author.Rules.{rules}
 use Rattle.label.proofs.RecordGeometry.{shape_unsound, pass_ready, words_unsound, words_found}
 use mathlib.Core.Path.{ap}
 use mathlib.Core.Bool.{not}

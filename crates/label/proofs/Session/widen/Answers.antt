@@ -1,6 +1,5 @@
 -- `widen` meets its contract: refused, or the stored lines are united again.
 -- Assumes nothing.
-use borrow.Author.Rules.{rules}
 use Rattle.label.proofs.RefusedLaws.{failed_widen}
 use Rattle.label.proofs.WidenBlockLaws.{passed_ready, passed_bytes, passed_widen}
 use Rattle.label.proofs.Session.widen.Goals as goal

@@ -1,7 +1,6 @@
 -- `widen_check` meets its contract: a sound record's structure is compared with the new one.
 -- Assumes nothing.
-use borrow.Author.Rules.{rules}
-use Rattle.label.proofs.CheckLaws.{widen_unsound, widen_asked, widen_found}
+use Rattle.label.proofs.CheckLaws.{widen_unsound, widen_found}
 use Rattle.label.proofs.Session.widen_check.Goals as goal
 
 pub returns-then-failed : goal.returns-then-failed
