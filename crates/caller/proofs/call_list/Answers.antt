@@ -1,12 +1,7 @@
 -- `call_list` meets its contract. The loop's invariant: what the rest of the list does from here on, all of it does from the start.
 -- Assumes nothing.
-use mathlib.Core.Path.{◌∙◌}
-use Prim.Native.Nat.{◌-◌}
-use lib.ListN.{length}
-use Rattle.caller.specs.Rooms.{rooms_of, lent_of}
-use Rattle.caller.specs.Making.{standing}
-use Rattle.caller.proofs.ListLaws.{Reached, reached_none, reached_next, reached_few, reached_all, entry_lent}
-use native.Mathlib.Omega.{arith}
+use Rattle.caller.specs.Rooms.{rooms_of}
+use Rattle.caller.proofs.ListLaws.{reached_next, reached_few, reached_all, entry_lent}
 use Rattle.caller.proofs.call_list.Goals as goal
 
 pub loop-i-preserved : goal.loop-i-preserved

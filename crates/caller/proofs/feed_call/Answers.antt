@@ -1,12 +1,10 @@
 -- `feed_call` meets its contract: it is no call, or a feed.
 -- Assumes nothing.
-use mathlib.Core.Path.{refl, sym, ap, ◌∙◌, subst}
-use Prim.Native.Nat.{ℕ, ◌+◌, ◌≤◌}
-use borrow.Author.Tests.{not-true, not-false}
+use mathlib.Core.Path.{sym, ap, ◌∙◌}
+use Prim.Native.Nat.{◌+◌}
 use lib.Dec.{leb}
 use Rattle.caller.specs.Rooms.{lent_of}
-use Rattle.caller.proofs.StepLaws.{part_within, feed_none, steps_as, step_feeds}
-use native.Mathlib.Omega.{arith}
+use Rattle.caller.proofs.StepLaws.{feed_none, steps_as, step_feeds}
 use Rattle.caller.proofs.feed_call.Goals as goal
 
 pub returns-then-not-is_part : goal.returns-then-not-is_part

@@ -6,8 +6,6 @@ use Rattle.frame.specs.Kinds.{u8s, u16s, i16s, f32s, flags}
 use Rattle.caller.specs.CallList.{entry_of}
 use Rattle.caller.specs.Rooms.{lent_of}
 use Rattle.caller.proofs.StepLaws.{three, feed_room, feed_made}
-use borrow.Author.Rules.{rules}
-use native.Mathlib.Omega.{arith}
 use Rattle.caller.proofs.feed_kind.Goals as goal
 
 pub returns-in-0 : goal.returns-in-0

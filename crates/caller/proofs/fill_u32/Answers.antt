@@ -1,13 +1,11 @@
 -- `fill_u32` meets its contract. The loop's invariant: the first i places hold v.
 -- Assumes nothing.
-use mathlib.Core.Path.{◌≡◌, sym, ap, ◌∙◌}
+use mathlib.Core.Path.{sym, ap, ◌∙◌}
 use mathlib.Core.List.{List}
-use Prim.Native.Nat.{ℕ, ◌-◌, ◌≤◌}
+use Prim.Native.Nat.{ℕ}
 use lib.ListN.{length, set, replicate}
-use Rattle.frame.specs.Overlay.{overlay}
 use Rattle.frame.proofs.OverlayLaws.{length_overlay, overlay_none}
 use Rattle.caller.proofs.FillLaws.{filled_next, filled_all}
-use borrow.Author.Rules.{rules}
 use native.Mathlib.Omega.{arith}
 use Rattle.caller.proofs.fill_u32.Goals as goal
 

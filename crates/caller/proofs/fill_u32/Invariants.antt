@@ -1,14 +1,9 @@
 -- `fill_u32` meets its contract. The loop's invariant: the first i places hold v.
 -- Assumes nothing.
-use mathlib.Core.Path.{◌≡◌, sym, ap, ◌∙◌}
-use mathlib.Core.List.{List}
-use Prim.Native.Nat.{ℕ, ◌-◌, ◌≤◌}
-use lib.ListN.{length, set, replicate}
+use mathlib.Core.Path.{◌≡◌}
+use Prim.Native.Nat.{◌-◌, ◌≤◌}
+use lib.ListN.{length, replicate}
 use Rattle.frame.specs.Overlay.{overlay}
-use Rattle.frame.proofs.OverlayLaws.{length_overlay, overlay_none}
-use Rattle.caller.proofs.FillLaws.{filled_next, filled_all}
-use borrow.Author.Rules.{rules}
-use native.Mathlib.Omega.{arith}
 use Rattle.caller.proofs.fill_u32.Given as goal
 
 abbrev pub invariant-loop-i : goal.invariant-loop-i

@@ -1,10 +1,9 @@
 -- `make_calls` keeps its promise: the opening is refused, or the calls of the list are made.
 -- Assumes nothing.
-use mathlib.Core.Path.{ap, ◌∙◌}
+use mathlib.Core.Path.{ap}
 use Rattle.label.specs.Cases.{open_number}
 use Rattle.causes.proofs.CaseLaws.{positive}
 use Rattle.caller.proofs.MadeLaws.{made_accepted, made_refused}
-use borrow.Author.Rules.{rules}
 use Rattle.caller.proofs.make_calls.Goals as goal
 
 pub returns-in-Refused : goal.returns-in-Refused

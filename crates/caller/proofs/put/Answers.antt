@@ -1,7 +1,6 @@
 -- `put` meets its contract: there is room, or there is none.
 -- Assumes nothing.
 use Rattle.frame.proofs.OverlayLaws.{adds_put, adds_full}
-use borrow.Author.Rules.{rules}
 use Rattle.caller.proofs.put.Goals as goal
 
 pub returns-then-at-answers : goal.returns-then-at-answers

@@ -3,9 +3,6 @@
 use Prim.Native.Nat.{◌-◌, ◌≤◌}
 use lib.ListN.{length, take}
 use Rattle.frame.specs.Overlay.{Adds}
-use Rattle.frame.proofs.OverlayLaws.{adds_none, adds_next, adds_all}
-use borrow.Author.Rules.{rules}
-use native.Mathlib.Omega.{arith}
 use Rattle.caller.proofs.put_u8.Given as goal
 
 abbrev pub invariant-loop-i : goal.invariant-loop-i

@@ -1,13 +1,11 @@
 -- `read_call_u16` meets its contract: it is no call, or the first places of the room are lent.
 -- Assumes nothing.
-use mathlib.Core.Path.{sym, ap}
+use mathlib.Core.Path.{ap}
 use mathlib.Core.List.{List}
 use Prim.Native.Nat.{ℕ}
-use lib.Seq.{length-take-le}
 use Rattle.frame.specs.Kinds.{u16}
 use Rattle.caller.specs.Rooms.{rooms_of}
 use Rattle.caller.proofs.StepLaws.{steps_rooms, room_back, read_out, read_in}
-use borrow.Author.Rules.{rules}
 use Rattle.caller.proofs.read_call_u16.Goals as goal
 
 pub returns-then-places-room : goal.returns-then-places-room

@@ -1,6 +1,5 @@
 -- `read_u16` meets its contract.
 -- Assumes nothing.
-use mathlib.Core.Path.{◌∙◌}
 use Rattle.frame.specs.Kinds.{u16}
 use Rattle.caller.proofs.StepLaws.{step_read}
 use Rattle.caller.proofs.read_u16.Goals as goal

@@ -1,6 +1,5 @@
 -- `read_u8` meets its contract.
 -- Assumes nothing.
-use mathlib.Core.Path.{◌∙◌}
 use Rattle.frame.specs.Kinds.{u8}
 use Rattle.caller.proofs.StepLaws.{step_read}
 use Rattle.caller.proofs.read_u8.Goals as goal

@@ -1,6 +1,5 @@
 -- `sizes` meets its contract.
 -- Assumes nothing.
-use mathlib.Core.Path.{◌∙◌}
 use Rattle.caller.proofs.StepLaws.{step_sizes}
 use Rattle.caller.proofs.sizes.Goals as goal
 

@@ -1,12 +1,10 @@
 -- `sizes_call` meets its contract: it is no call, or the first places of the room are lent.
 -- Assumes nothing.
-use mathlib.Core.Path.{sym, ap}
+use mathlib.Core.Path.{ap}
 use mathlib.Core.List.{List}
 use Prim.Native.Nat.{ℕ}
-use lib.Seq.{length-take-le}
 use Rattle.caller.specs.Rooms.{rooms_of}
 use Rattle.caller.proofs.StepLaws.{steps_rooms, room_back, sizes_out, sizes_in}
-use borrow.Author.Rules.{rules}
 use Rattle.caller.proofs.sizes_call.Goals as goal
 
 pub returns-then-places-room : goal.returns-then-places-room

@@ -1,9 +1,6 @@
 -- `widen_call` meets its contract: it is no call, or a structure change.
 -- Assumes nothing.
 use mathlib.Core.Path.{refl, sym, ◌∙◌}
-use borrow.Author.Rules.{rules}
-use borrow.Author.Tests.{not-true, not-false}
-use native.Mathlib.Omega.{arith}
 use lib.ListN.{length}
 use Rattle.caller.proofs.StepLaws.{part_within, widen_out, widen_in, step_widen}
 use Rattle.caller.proofs.widen_call.Goals as goal

@@ -1,7 +1,6 @@
 -- `at_end` meets its contract.
 -- Assumes nothing.
 use Rattle.clumps_text.proofs.FrameLaws.{ends_at_lem}
-use borrow.Author.Rules.{rules}
 use Rattle.clumps_text.proofs.at_end.Goals as goal
 
 pub returns : goal.returns

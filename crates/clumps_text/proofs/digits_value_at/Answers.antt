@@ -3,7 +3,6 @@
 use mathlib.Core.Path.{ap, ◌∙◌}
 use Prim.Native.Nat.{ℕ, ◌+◌, ◌-◌, ◌*◌}
 use Rattle.clumps_text.proofs.PlaceLaws.{digits_value_none, digits_value_one, digits_value_two}
-use borrow.Author.Rules.{rules}
 use Rattle.clumps_text.proofs.digits_value_at.Goals as goal
 
 pub returns-then-text-at : goal.returns-then-text-at

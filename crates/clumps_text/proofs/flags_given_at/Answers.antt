@@ -1,7 +1,6 @@
 -- `flags_given_at` meets its contract.
 -- Assumes nothing.
 use Rattle.clumps_text.proofs.FrameLaws.{flags_given_none, flags_given_nine}
-use borrow.Author.Rules.{rules}
 use Rattle.clumps_text.proofs.flags_given_at.Goals as goal
 
 pub returns-then-byte_at-eq10 : goal.returns-then-byte_at-eq10

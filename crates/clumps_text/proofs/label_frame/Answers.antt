@@ -1,10 +1,7 @@
 -- `label_frame` meets its contract.
 -- Assumes nothing.
-use mathlib.Core.Path.{sym, ◌∙◌}
-use native.Mathlib.Omega.{arith}
-use Rattle.clumps_text.proofs.FrameLaws.{product}
-use Rattle.clumps_text.proofs.ReportLaws.{prefix_long, prefix_room, prefix_new, ready, labels_printed}
-use borrow.Author.Rules.{rules}
+use mathlib.Core.Path.{◌∙◌}
+use Rattle.clumps_text.proofs.ReportLaws.{prefix_new, ready, labels_printed}
 use Rattle.clumps_text.proofs.label_frame.Goals as goal
 
 pub returns : goal.returns

@@ -3,7 +3,6 @@
 use Prim.Native.Nat.{ℕ}
 use lib.ListN.{replicate, length-replicate}
 use Rattle.clumps_text.proofs.LabelLaws.{labels_done}
-use borrow.Author.Rules.{rules}
 use Rattle.clumps_text.proofs.label_into.Goals as goal
 
 pub returns : goal.returns

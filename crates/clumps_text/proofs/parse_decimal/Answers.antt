@@ -7,7 +7,6 @@ use native.Mathlib.Omega.{arith}
 use Rattle.clumps_text.specs.Input.{parse_exactly}
 use Rattle.clumps_text.specs.Steps.{parse_from}
 use Rattle.clumps_text.proofs.DecimalLaws.{one_line, two_line}
-use borrow.Author.Rules.{rules}
 use Rattle.clumps_text.proofs.parse_decimal.Goals as goal
 
 pub returns-then-v-lt10 : goal.returns-then-v-lt10

@@ -1,13 +1,12 @@
 -- `parse_exactly` meets its contract. The loop's invariant: the first i bytes stand there, and what is left to compare decides.
 -- Assumes nothing.
-use mathlib.Core.Path.{◌≡◌, sym, ap, ◌∙◌}
-use Prim.Native.Nat.{ℕ, ◌+◌, ◌-◌, ◌≤◌}
+use mathlib.Core.Path.{◌≡◌, sym, ◌∙◌}
 use native.Mathlib.Omega.{arith}
 use borrow.Author.Rules.{rules}
-use lib.ListN.{length, drop, length-drop}
+use lib.ListN.{drop, length-drop}
 use Rattle.clumps_text.specs.Input.{bad, parse_exactly}
 use Rattle.clumps_text.proofs.PlaceLaws.{parse_exactly_short, parse_exactly_same, parse_exactly_differ, parse_exactly_all}
-use Rattle.clumps_text.proofs.PlaceLaws.{from_nowhere, from_at}
+use Rattle.clumps_text.proofs.PlaceLaws.{from_at}
 use Rattle.clumps_text.proofs.parse_exactly.Goals as goal
 
 pub returns-then-bytes_left-name : goal.returns-then-bytes_left-name

@@ -1,13 +1,9 @@
 -- `parse_exactly` meets its contract. The loop's invariant: the first i bytes stand there, and what is left to compare decides.
 -- Assumes nothing.
-use mathlib.Core.Path.{◌≡◌, sym, ap, ◌∙◌}
-use Prim.Native.Nat.{ℕ, ◌+◌, ◌-◌, ◌≤◌}
-use native.Mathlib.Omega.{arith}
-use borrow.Author.Rules.{rules}
-use lib.ListN.{length, drop, length-drop}
-use Rattle.clumps_text.specs.Input.{bad, parse_exactly}
-use Rattle.clumps_text.proofs.PlaceLaws.{parse_exactly_short, parse_exactly_same, parse_exactly_differ, parse_exactly_all}
-use Rattle.clumps_text.proofs.PlaceLaws.{from_nowhere, from_at}
+use mathlib.Core.Path.{◌≡◌}
+use Prim.Native.Nat.{◌+◌, ◌-◌, ◌≤◌}
+use lib.ListN.{length, drop}
+use Rattle.clumps_text.specs.Input.{parse_exactly}
 use Rattle.clumps_text.proofs.parse_exactly.Given as goal
 
 abbrev pub invariant-loop-i : goal.invariant-loop-i

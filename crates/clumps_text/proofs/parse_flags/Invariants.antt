@@ -1,16 +1,11 @@
 -- `parse_flags` meets its contract. The loop's invariant: the first i flags are read, and what follows decides.
 -- Assumes nothing.
-use mathlib.Core.Path.{◌≡◌, refl, sym, ap, ◌∙◌}
+use mathlib.Core.Path.{◌≡◌}
 use mathlib.Core.List.{[]}
-use Prim.Native.Nat.{ℕ, ◌+◌, ◌-◌, ◌≤◌}
-use native.Mathlib.Omega.{arith}
-use borrow.Author.Rules.{rules}
-use lib.ListN.{length, get_or, take, drop, length-drop}
-use lib.Seq.{drop-set-lt}
+use Prim.Native.Nat.{◌+◌, ◌-◌, ◌≤◌}
+use lib.ListN.{length, take, drop}
 use Rattle.clumps_text.specs.Input.{parse_flags}
-use Rattle.clumps_text.specs.Steps.{parse_as_bytes}
-use Rattle.clumps_text.proofs.PlaceLaws.{as_bytes, as_bytes_short, parse_flags_none, parse_flags_turn, parse_flags_all, some_flag}
-use Rattle.clumps_text.proofs.PlaceLaws.{flag_least, no_flag, from_nowhere, from_at}
+use Rattle.clumps_text.proofs.PlaceLaws.{as_bytes}
 use Rattle.clumps_text.proofs.parse_flags.Given as goal
 
 abbrev pub invariant-loop-i : goal.invariant-loop-i

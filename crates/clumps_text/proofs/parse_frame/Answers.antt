@@ -1,11 +1,9 @@
 -- `parse_frame` meets its contract.
 -- Assumes nothing.
 use Prim.Native.Nat.{◌*◌}
-use native.Mathlib.Omega.{arith}
 use lib.ListN.{take}
 use Rattle.clumps_text.specs.Text.{structure_name, cells_name}
-use Rattle.clumps_text.proofs.FrameLaws.{frame_parsed, product}
-use borrow.Author.Rules.{rules}
+use Rattle.clumps_text.proofs.FrameLaws.{frame_parsed}
 use Rattle.clumps_text.proofs.parse_frame.Goals as goal
 
 pub returns : goal.returns

@@ -2,7 +2,6 @@
 -- Assumes nothing.
 use native.Mathlib.Omega.{arith}
 use Rattle.clumps_text.proofs.PlaceLaws.{number_limits, parse_number_refused, number_parsed}
-use borrow.Author.Rules.{rules}
 use Rattle.clumps_text.proofs.parse_number.Goals as goal
 
 pub returns-then-v : goal.returns-then-v

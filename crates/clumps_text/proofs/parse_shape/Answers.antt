@@ -2,7 +2,6 @@
 -- Assumes nothing.
 use Rattle.clumps_text.specs.Text.{width_name, lines_name}
 use Rattle.clumps_text.proofs.FrameLaws.{shape_parsed}
-use borrow.Author.Rules.{rules}
 use Rattle.clumps_text.proofs.parse_shape.Goals as goal
 
 pub returns : goal.returns

@@ -5,7 +5,6 @@ use native.Mathlib.Omega.{arith}
 use lib.ListN.{length, drop}
 use Rattle.clumps_text.proofs.StructureLaws.{empty_nine}
 use Rattle.clumps_text.proofs.FrameLaws.{flags_given_most, structure_parsed}
-use borrow.Author.Rules.{rules}
 use Rattle.clumps_text.proofs.parse_structure.Goals as goal
 
 pub parse_flags-requires : goal.parse_flags-requires

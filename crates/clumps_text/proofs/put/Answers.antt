@@ -1,6 +1,5 @@
 -- `put` meets its contract.
 -- Assumes nothing.
-use borrow.Author.Rules.{rules}
 use Rattle.frame.proofs.OverlayLaws.{adds_put, adds_full}
 use Rattle.clumps_text.proofs.put.Goals as goal
 

@@ -1,12 +1,9 @@
 -- `put_bytes` meets its contract. The loop's invariant: the first i bytes are printed.
 -- Assumes nothing.
-use mathlib.Core.Path.{◌≡◌, refl, ◌∙◌}
+use mathlib.Core.Path.{◌≡◌}
 use Prim.Native.Nat.{◌-◌, ◌≤◌}
-use native.Mathlib.Omega.{arith}
-use borrow.Author.Rules.{rules}
 use lib.ListN.{length, take}
 use Rattle.frame.specs.Overlay.{Adds}
-use Rattle.frame.proofs.OverlayLaws.{adds_none, adds_next, adds_all}
 use Rattle.clumps_text.proofs.put_bytes.Given as goal
 
 abbrev pub invariant-loop-i : goal.invariant-loop-i

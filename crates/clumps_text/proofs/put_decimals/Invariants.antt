@@ -1,14 +1,11 @@
 -- `put_decimals` meets its contract. The loop's invariant: what prints the rest from here on prints all but the first number.
 -- Assumes nothing.
-use mathlib.Core.Path.{◌≡◌, refl, ◌∙◌}
+use mathlib.Core.Path.{◌≡◌}
 use mathlib.Core.List.{List}
 use Prim.Native.Nat.{ℕ, ◌-◌, ◌≤◌}
-use native.Mathlib.Omega.{arith}
-use borrow.Author.Rules.{rules}
 use lib.ListN.{length, drop}
 use Rattle.clumps_text.specs.Text.{blank_before}
 use Rattle.frame.specs.Overlay.{Adds}
-use Rattle.clumps_text.proofs.PrintLaws.{decimals_none, decimals_first, blanks_none, blanks_turn}
 use Rattle.clumps_text.proofs.put_decimals.Given as goal
 
 abbrev pub invariant-loop-i : goal.invariant-loop-i

@@ -4,7 +4,6 @@ use Rattle.clumps_text.specs.Text.{decimal, runs_name, joins_name, cells_name, o
 use Rattle.clumps_text.specs.Output.{labelled_text}
 use Rattle.frame.proofs.OverlayLaws.{adds_then, adds_first}
 use Rattle.clumps_text.proofs.PrintLaws.{adds_line}
-use borrow.Author.Rules.{rules}
 use Rattle.clumps_text.proofs.put_labelled_text.Goals as goal
 
 pub returns : goal.returns

@@ -3,7 +3,6 @@
 use Rattle.clumps_text.specs.Text.{refused_name}
 use Rattle.clumps_text.specs.Output.{refusal_text}
 use Rattle.frame.proofs.OverlayLaws.{adds_first}
-use borrow.Author.Rules.{rules}
 use Rattle.clumps_text.proofs.put_refusal.Goals as goal
 
 pub returns : goal.returns

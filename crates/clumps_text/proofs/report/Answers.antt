@@ -3,7 +3,6 @@
 use mathlib.Core.Path.{refl, sym, ◌∙◌}
 use Rattle.clumps_text.specs.Output.{structure_bytes}
 use Rattle.clumps_text.proofs.ReportLaws.{whole_ready, whole_output, refused_output, reported}
-use borrow.Author.Rules.{rules}
 use Rattle.clumps_text.proofs.report.Goals as goal
 
 pub parse_frame-z-requires : goal.parse_frame-z-requires

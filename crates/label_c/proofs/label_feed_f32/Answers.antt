@@ -1,9 +1,9 @@
 -- `label_feed_f32` keeps its promise: it is not made, or it is what the feed and its end are.
 -- Assumes nothing.
-use mathlib.Core.Path.{refl, sym, ◌∙◌}
+use mathlib.Core.Path.{sym, ◌∙◌}
 use lib.ListN.{length}
 use Rattle.record_c.proofs.EarlyLaws.{early_ready}
-use Rattle.label_c.proofs.CallLaws.{feed_early, feed_made}
+use Rattle.label_c.proofs.CallLaws.{feed_early}
 use Rattle.label_c.proofs.label_feed_f32.Goals as goal
 
 pub returns-then-early-ne0 : goal.returns-then-early-ne0

@@ -3,7 +3,7 @@
 use mathlib.Core.Path.{sym, ◌∙◌}
 use lib.ListN.{length}
 use Rattle.record_c.proofs.EarlyLaws.{early_ready}
-use Rattle.label_c.proofs.CallLaws.{read_early, read_made}
+use Rattle.label_c.proofs.CallLaws.{read_early}
 use Rattle.label_c.proofs.label_read_u16.Goals as goal
 
 pub returns-then-early-ne0 : goal.returns-then-early-ne0

@@ -3,7 +3,7 @@
 use mathlib.Core.Path.{sym, ◌∙◌}
 use lib.ListN.{length}
 use Rattle.record_c.proofs.EarlyLaws.{early_ready}
-use Rattle.label_c.proofs.CallLaws.{sizes_early, sizes_made}
+use Rattle.label_c.proofs.CallLaws.{sizes_early}
 use Rattle.label_c.proofs.label_sizes.Goals as goal
 
 pub returns-then-early-ne0 : goal.returns-then-early-ne0

@@ -1,9 +1,9 @@
 -- `label_widen` keeps its promise: it is not made, or it is what the structure change and its end are.
 -- Assumes nothing.
-use mathlib.Core.Path.{refl, sym, ◌∙◌}
+use mathlib.Core.Path.{sym, ◌∙◌}
 use lib.ListN.{length}
 use Rattle.record_c.proofs.EarlyLaws.{early_ready}
-use Rattle.label_c.proofs.CallLaws.{widen_early, widen_made}
+use Rattle.label_c.proofs.CallLaws.{widen_early}
 use Rattle.label_c.proofs.label_widen.Goals as goal
 
 pub returns-then-early-ne0 : goal.returns-then-early-ne0

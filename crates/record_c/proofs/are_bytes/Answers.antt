@@ -1,11 +1,7 @@
 -- `are_bytes` meets its contract. The loop's invariant: the words from `i` on decide it.
 -- Assumes nothing.
-use mathlib.Core.Path.{◌≡◌, refl, sym, ◌∙◌}
-use Prim.Native.Nat.{◌-◌, ◌≤◌}
+use mathlib.Core.Path.{sym, ◌∙◌}
 use native.Mathlib.Omega.{arith}
-use borrow.Author.Rules.{rules}
-use lib.ListN.{length, drop}
-use Rattle.record_c.specs.Records.{bytes}
 use Rattle.record_c.proofs.RecordLaws.{bytes_next, bytes_stop, bytes_end}
 use Rattle.record_c.proofs.are_bytes.Goals as goal
 

@@ -1,12 +1,9 @@
 -- `are_bytes` meets its contract. The loop's invariant: the words from `i` on decide it.
 -- Assumes nothing.
-use mathlib.Core.Path.{◌≡◌, refl, sym, ◌∙◌}
+use mathlib.Core.Path.{◌≡◌}
 use Prim.Native.Nat.{◌-◌, ◌≤◌}
-use native.Mathlib.Omega.{arith}
-use borrow.Author.Rules.{rules}
 use lib.ListN.{length, drop}
 use Rattle.record_c.specs.Records.{bytes}
-use Rattle.record_c.proofs.RecordLaws.{bytes_next, bytes_stop, bytes_end}
 use Rattle.record_c.proofs.are_bytes.Given as goal
 
 abbrev pub invariant-loop-i : goal.invariant-loop-i

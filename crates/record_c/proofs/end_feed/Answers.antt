@@ -3,7 +3,6 @@
 use mathlib.Core.Path.{refl}
 use Rattle.causes.proofs.CaseLaws.{positive}
 use Rattle.record_c.proofs.EndLaws.{ends_written, ends_refused, record_written, record_stands}
-use borrow.Author.Rules.{rules}
 use Rattle.record_c.proofs.end_feed.Goals as goal
 
 pub returns-in-Accepted : goal.returns-in-Accepted

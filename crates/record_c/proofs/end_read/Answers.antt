@@ -2,7 +2,6 @@
 -- Assumes nothing.
 use mathlib.Core.Path.{refl}
 use Rattle.record_c.proofs.EndLaws.{ends_written, ends_refused}
-use borrow.Author.Rules.{rules}
 use Rattle.record_c.proofs.end_read.Goals as goal
 
 pub returns-in-Accepted : goal.returns-in-Accepted

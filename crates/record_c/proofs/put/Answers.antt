@@ -1,7 +1,6 @@
 -- `put` meets its contract: there is room, or there is none.
 -- Assumes nothing.
 use Rattle.frame.proofs.OverlayLaws.{adds_put, adds_full}
-use borrow.Author.Rules.{rules}
 use Rattle.record_c.proofs.put.Goals as goal
 
 pub returns-then-at-buf : goal.returns-then-at-buf

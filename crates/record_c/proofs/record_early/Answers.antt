@@ -2,10 +2,8 @@
 -- Assumes nothing.
 use mathlib.Core.Path.{sym, ◌∙◌}
 use mathlib.Core.Bool.{true, false}
-use borrow.Author.Tests.{not-true, not-false}
 use native.Mathlib.Omega.{arith}
 use Rattle.record_c.proofs.EarlyLaws.{record_short, answer_short, early_by_bytes}
-use borrow.Author.Rules.{rules}
 use Rattle.record_c.proofs.record_early.Goals as goal
 
 pub returns-then-rec-lt-RECORD_WORDS : goal.returns-then-rec-lt-RECORD_WORDS

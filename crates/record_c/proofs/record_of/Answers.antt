@@ -1,7 +1,6 @@
 -- `record_of` meets its contract: word by word, and the structure's bytes.
 -- Assumes nothing.
 use Rattle.record_c.specs.Records.{record_of}
-use borrow.Author.Rules.{rules}
 use Rattle.record_c.proofs.record_of.Goals as goal
 
 pub returns : goal.returns

@@ -1,12 +1,8 @@
 -- `structure_of` meets its contract. The loop's invariant: the first `i` bytes are copied.
 -- Assumes nothing.
-use mathlib.Core.Path.{◌≡◌}
-use Prim.Native.Nat.{◌-◌, ◌≤◌}
 use native.Mathlib.Omega.{arith}
-use borrow.Author.Rules.{rules}
-use lib.ListN.{length}
-use Rattle.geo.proofs.CopyLaws.{front, front_turn}
-use Rattle.record_c.proofs.RecordLaws.{byte_at, copied}
+use Rattle.geo.proofs.CopyLaws.{front_turn}
+use Rattle.record_c.proofs.RecordLaws.{byte_at}
 use Rattle.record_c.proofs.structure_of.Goals as goal
 
 pub overflow_cast-out : goal.overflow_cast-out

@@ -2,11 +2,8 @@
 -- Assumes nothing.
 use mathlib.Core.Path.{◌≡◌}
 use Prim.Native.Nat.{◌-◌, ◌≤◌}
-use native.Mathlib.Omega.{arith}
-use borrow.Author.Rules.{rules}
 use lib.ListN.{length}
-use Rattle.geo.proofs.CopyLaws.{front, front_turn}
-use Rattle.record_c.proofs.RecordLaws.{byte_at, copied}
+use Rattle.geo.proofs.CopyLaws.{front}
 use Rattle.record_c.proofs.structure_of.Given as goal
 
 abbrev pub invariant-loop-i : goal.invariant-loop-i

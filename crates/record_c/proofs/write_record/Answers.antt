@@ -2,7 +2,6 @@
 -- Assumes nothing.
 use Rattle.frame.proofs.OverlayLaws.{adds_then, adds_first}
 use Rattle.record_c.specs.Records.{words_of}
-use borrow.Author.Rules.{rules}
 use Rattle.record_c.proofs.write_record.Goals as goal
 
 pub returns : goal.returns

@@ -1,6 +1,5 @@
 -- `block_lines` meets its contract: it is the definition, by the block count.
 -- Assumes nothing.
-use borrow.Author.Rules.{rules}
 use mathlib.Core.Path.{ap}
 use Prim.Native.Nat.{ℕ, ◌+◌, ◌-◌, ◌/◌}
 use Rattle.label.specs.WholeFrame.{block_lines}

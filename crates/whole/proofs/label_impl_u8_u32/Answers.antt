@@ -1,6 +1,5 @@
 -- `label_impl_u8_u32` meets its promise: a frame that is fed, or refused, and then numbered.
 -- Assumes nothing.
-use borrow.Author.Rules.{rules}
 use Rattle.whole.proofs.WholeLaws.{whole_fed, whole_frame}
 use Rattle.whole.proofs.label_impl_u8_u32.Goals as goal
 

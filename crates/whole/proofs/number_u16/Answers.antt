@@ -2,9 +2,8 @@
 -- Assumes nothing.
 use mathlib.Core.Path.{◌≡◌, refl}
 use Prim.Native.Nat.{ℕ}
-use borrow.Author.Rules.{rules}
 use Rattle.frame.specs.Kinds.{u16, largest}
-use Rattle.whole.proofs.NumberingLaws.{number_refused, number_joins, number_ready, number_ten, number_done}
+use Rattle.whole.proofs.NumberingLaws.{number_joins, number_ready, number_ten, number_done}
 use Rattle.whole.proofs.number_u16.Goals as goal
 
 -- MAXV
