@@ -76,7 +76,7 @@ module _ (shape structure : List ℕ) (cells : List Bool) where
   pub start_le : (a b : ℕ) → a ≤ b → S a ≤ S b
   start_le a b h = let e : a + (b - a) ≡ b = omega arith in subst (λ (m : ℕ). S a ≤ S m) e (start_more a (b - a))
 
-  -- run i of line ℓ has the number runsBefore ℓ + i
+  -- run i of line ℓ has the number runs_before ℓ + i
   pub run_at : (ℓ i : ℕ) → ℓ < lines shape → i < length (R ℓ) → run (S ℓ + i) ≡ get_or (R ℓ) i none
   unfolding frame_run runs_before all_runs
   run_at ℓ i h k =

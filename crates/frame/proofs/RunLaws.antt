@@ -27,10 +27,10 @@ use Rattle.frame.specs.Runs.{goes_on, begins_run, runs, run_of}
 use Rattle.frame.proofs.StructureLaws.{mid, twice_mid, half_mid, next_mid, backward_mid, left_moved}
 use Rattle.frame.proofs.ChainRuleLaws.{nonzero_below, nonzero_beyond, step_edge, step_flip, label_only, count_only}
 
--- ---- the cell to the leftOn
+-- ---- the cell to the left
 
 module _ (structure : List ℕ) (cells : List Bool) where
-  -- where the left byte is nonzero, a cell that goes on leads to the cell to the leftOn
+  -- where the left byte is nonzero, a cell that goes on leads to the cell to the left
   pub left_leads : (shape : List ℕ) (p : ℕ) → p < size shape → left_on shape structure ≡ true → goes_on shape cells p ≡ true
       → Leads shape structure p (p - 1)
   unfolding left_on goes_on
