@@ -14,8 +14,7 @@ use Rattle.forest.proofs.find.Goals as goal
 -- the parent of `at` is its own parent: the root of `at`, and so of x
 pub returns-then-over-up : goal.returns-then-over-up
 returns-then-over-up c =
-    let k = c in
-    let l = k.loop-x in
+    let l = c.loop-x in
     λ n P h. let I = l.invariant.1 n P h in record {
       kept = I.kept;
       same = I.same;
@@ -27,10 +26,9 @@ returns-then-over-up c =
 pub loop-x-preserved : goal.loop-x-preserved
 loop-x-preserved c =
     let parents : Parents c.loop-x.p (suc c.args.x) = only_parents _ _ _ c.requires (c.loop-x.invariant.1 _ c.requires (le_refl _)).kept in
-    let low : parent_in c.loop-x.p c.loop-x.at ≤ c.loop-x.at = (parents).low _ (omega (arith, c.loop-x.invariant.0)) in
-    let low_up : parent_in c.loop-x.p (parent_in c.loop-x.p c.loop-x.at) ≤ parent_in c.loop-x.p c.loop-x.at = (parents).low _ (omega (arith, low, c.loop-x.invariant.0)) in
-    let l = c in (
-      omega (arith, low, low_up, l.loop-x.invariant.0),
-      λ n P h. found_half _ _ n _ _ P (omega (arith, l.loop-x.invariant.0))
-          (l.loop-x.invariant.1 n P h),
+    let low : parent_in c.loop-x.p c.loop-x.at ≤ c.loop-x.at = parents.low _ (omega (arith, c.loop-x.invariant.0)) in
+    let low_up : parent_in c.loop-x.p (parent_in c.loop-x.p c.loop-x.at) ≤ parent_in c.loop-x.p c.loop-x.at = parents.low _ (omega (arith, low, c.loop-x.invariant.0)) in (
+      omega (arith, low, low_up, c.loop-x.invariant.0),
+      λ n P h. found_half _ _ n _ _ P (omega (arith, c.loop-x.invariant.0))
+          (c.loop-x.invariant.1 n P h),
     )
