@@ -16,7 +16,8 @@ returns-then-failed c =
 
 pub block_lines-most-requires : goal.block_lines-most-requires
 block_lines-most-requires c =
-    let passed : let a = c.args in CheckPassed nzℤ a.shape.now a.structure.now a.words.now a.cells.now a.places c.frame_check-found.result = record {
+    let a = c.args in
+    let passed : CheckPassed nzℤ a.shape.now a.structure.now a.words.now a.cells.now a.places c.frame_check-found.result = record {
       arguments = c.frame_check-found.ensures;
       no_cause = passed_none _ _ c.failed.ensures c.if-failed.false;
     } in
@@ -24,7 +25,8 @@ block_lines-most-requires c =
 
 pub bounds-words-0 : goal.bounds-words-0
 bounds-words-0 c =
-    let passed : let a = c.args in CheckPassed nzℤ a.shape.now a.structure.now a.words.now a.cells.now a.places c.frame_check-found.result = record {
+    let a = c.args in
+    let passed : CheckPassed nzℤ a.shape.now a.structure.now a.words.now a.cells.now a.places c.frame_check-found.result = record {
       arguments = c.frame_check-found.ensures;
       no_cause = passed_none _ _ c.failed.ensures c.if-failed.false;
     } in
@@ -32,7 +34,8 @@ bounds-words-0 c =
 
 pub loop-fed-init : goal.loop-fed-init
 loop-fed-init c =
-    let passed : let a = c.args in CheckPassed nzℤ a.shape.now a.structure.now a.words.now a.cells.now a.places c.frame_check-found.result = record {
+    let a = c.args in
+    let passed : CheckPassed nzℤ a.shape.now a.structure.now a.words.now a.cells.now a.places c.frame_check-found.result = record {
       arguments = c.frame_check-found.ensures;
       no_cause = passed_none _ _ c.failed.ensures c.if-failed.false;
     } in
@@ -74,7 +77,8 @@ loop-fed-preserved c =
 
 pub returns : goal.returns
 returns c =
-    let passed : let a = c.args in CheckPassed nzℤ a.shape.now a.structure.now a.words.now a.cells.now a.places c.frame_check-found.result = record {
+    let a = c.args in
+    let passed : CheckPassed nzℤ a.shape.now a.structure.now a.words.now a.cells.now a.places c.frame_check-found.result = record {
       arguments = c.frame_check-found.ensures;
       no_cause = passed_none _ _ c.failed.ensures c.if-failed.false;
     } in
