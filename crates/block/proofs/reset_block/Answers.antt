@@ -5,6 +5,5 @@ use Rattle.block.proofs.reset_block.Goals as goal
 
 pub returns : goal.returns
 returns c =
-    let s = c in
-    reset_back s.args.lines s.args.words.now s.args.fed s.args.k s.requires c.reset.new.p
+    reset_back c.args.lines c.args.words.now c.args.fed c.args.k c.requires c.reset.new.p
     c.reset.ensures

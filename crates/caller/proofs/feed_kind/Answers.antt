@@ -14,7 +14,7 @@ returns-in-0 c rooms =
     let s = c.args in
     let p = c.requires in
     feed_made u8s s.u8s.now s.e.a s.e.b s.e.c p.ends
-    (feed_room (p) 0 c.in-0.is)
+    (feed_room p 0 c.in-0.is)
     (ap (λ (code : ℕ). entry_of (lent_of s.u8s.now s.u16s.now s.i16s.now s.f32s.now rooms) code s.e.a s.e.b
     s.e.c) c.in-0.is) c.feed_u8.ensures
 
@@ -24,7 +24,7 @@ returns-in-1 c rooms =
     let s = c.args in
     let p = c.requires in
     feed_made u16s s.u16s.now s.e.a s.e.b s.e.c p.ends
-    (feed_room (p) 1 c.in-1.is)
+    (feed_room p 1 c.in-1.is)
     (ap (λ (code : ℕ). entry_of (lent_of s.u8s.now s.u16s.now s.i16s.now s.f32s.now rooms) code s.e.a s.e.b
     s.e.c) c.in-1.is) c.feed_u16.ensures
 
@@ -34,7 +34,7 @@ returns-in-2 c rooms =
     let s = c.args in
     let p = c.requires in
     feed_made i16s s.i16s.now s.e.a s.e.b s.e.c p.ends
-    (feed_room (p) 2 c.in-2.is)
+    (feed_room p 2 c.in-2.is)
     (ap (λ (code : ℕ). entry_of (lent_of s.u8s.now s.u16s.now s.i16s.now s.f32s.now rooms) code s.e.a s.e.b
     s.e.c) c.in-2.is) c.feed_i16.ensures
 
@@ -44,6 +44,6 @@ returns-in_default c rooms =
     let s = c.args in
     let p = c.requires in
     feed_made f32s s.f32s.now s.e.a s.e.b s.e.c p.ends
-    (feed_room (p) 3 (three c.in_default.in_default-own.rest p.code))
+    (feed_room p 3 (three c.in_default.in_default-own.rest p.code))
     (ap (λ (code : ℕ). entry_of (lent_of s.u8s.now s.u16s.now s.i16s.now s.f32s.now rooms) code s.e.a s.e.b
     s.e.c) (three c.in_default.in_default-own.rest p.code)) c.feed_f32.ensures

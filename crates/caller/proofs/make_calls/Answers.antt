@@ -7,8 +7,7 @@ use Rattle.caller.proofs.MadeLaws.{made_accepted, made_refused}
 use Rattle.caller.proofs.make_calls.Goals as goal
 
 pub returns-in-Refused : goal.returns-in-Refused
-returns-in-Refused c =
-    made_refused c.open-o.ensures _ _ _ (rw c.in-Refused.is (positive c.in-Refused.field-0))
+returns-in-Refused c = made_refused c.open-o.ensures _ _ _ (rw c.in-Refused.is (positive c.in-Refused.field-0))
 
 pub returns : goal.returns
 returns c = made_accepted

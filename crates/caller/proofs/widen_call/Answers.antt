@@ -7,17 +7,13 @@ use Rattle.caller.proofs.widen_call.Goals as goal
 
 pub returns-then-not-is_part : goal.returns-then-not-is_part
 returns-then-not-is_part c rooms =
-    let i = c in
-    let s = i.args in
-    widen_out s.u8s.now s.e.b s.e.c (sym i.is_part.ensures ∙ i.if-not-is_part.true)
+    let s = c.args in
+    widen_out s.u8s.now s.e.b s.e.c (sym c.is_part.ensures ∙ c.if-not-is_part.true)
     (c.no_call.ensures s.words.now rooms)
 
 pub returns : goal.returns
 returns c rooms =
-    let f = c in
-    let w = f in
-    let i = w in
-    let s = i.args in
+    let s = c.args in
     widen_in s.u8s.now s.e.b s.e.c refl
-    (part_within s.e.b s.e.c (length s.u8s.now) _ i.is_part.ensures (i.if-not-is_part.false))
-    (step_widen f.put_fed-next.ensures w.widen-w.ensures rooms)
+    (part_within s.e.b s.e.c (length s.u8s.now) _ c.is_part.ensures (c.if-not-is_part.false))
+    (step_widen c.put_fed-next.ensures c.widen-w.ensures rooms)

@@ -5,18 +5,14 @@ use Rattle.causes.proofs.CallLaws.{feed_gets_7, feed_gets_8, feed_gets_none}
 use Rattle.causes.proofs.feed_check.Goals as goal
 
 pub returns-then-k-g : goal.returns-then-k-g
-returns-then-k-g c =
-    let s = c in
-    feed_gets_7 (s.args.g.lines - s.args.fed) s.args.k s.args.g.width s.args.cells c.if-k-g.true
+returns-then-k-g c = feed_gets_7 (c.args.g.lines - c.args.fed) c.args.k c.args.g.width c.args.cells c.if-k-g.true
 
 pub returns-then-cells-k : goal.returns-then-cells-k
 returns-then-cells-k c =
-    let s = c in
-    feed_gets_8 (s.args.g.lines - s.args.fed) s.args.k s.args.g.width s.args.cells c.if-k-g.false
+    feed_gets_8 (c.args.g.lines - c.args.fed) c.args.k c.args.g.width c.args.cells c.if-k-g.false
     c.if-cells-k.true
 
 pub returns : goal.returns
 returns c =
-    let s = c in
-    feed_gets_none (s.args.g.lines - s.args.fed) s.args.k s.args.g.width s.args.cells c.if-k-g.false
+    feed_gets_none (c.args.g.lines - c.args.fed) c.args.k c.args.g.width c.args.cells c.if-k-g.false
     c.if-cells-k.false

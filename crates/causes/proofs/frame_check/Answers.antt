@@ -8,17 +8,15 @@ use Rattle.causes.proofs.frame_check.Goals as goal
 
 pub returns-then-failed : goal.returns-then-failed
 returns-then-failed c =
-    let s = c in
-    frame_gets_open s.args.shape.now s.args.structure.now s.args.memory s.args.cells s.args.out _
+    frame_gets_open c.args.shape.now c.args.structure.now c.args.memory c.args.cells c.args.out _
     c.open_check-opening.ensures (failed_some _ _ c.failed.ensures c.if-failed.true)
 
 pub overflow_mul-g : goal.overflow_mul-g
 overflow_mul-g c =
-    let s = c in
     record {
       fits = omega (
         arith,
-        frame_small s.args.shape.now s.args.structure.now s.args.memory s.args.cells s.args.out _
+        frame_small c.args.shape.now c.args.structure.now c.args.memory c.args.cells c.args.out _
             c.open_check-opening.ensures
             (passed_none _ _ c.failed.ensures c.if-failed.false),
       );
@@ -26,25 +24,22 @@ overflow_mul-g c =
 
 pub returns-then-cells-g : goal.returns-then-cells-g
 returns-then-cells-g c =
-    let s = c in
-    found_cause _ _ _ 8 _ _ (omega arith) (frame_gets_8 s.args.shape.now s.args.structure.now s.args.memory s.args.cells
-    s.args.out _ c.open_check-opening.ensures
+    found_cause _ _ _ 8 _ _ (omega arith) (frame_gets_8 c.args.shape.now c.args.structure.now c.args.memory c.args.cells
+    c.args.out _ c.open_check-opening.ensures
     (passed_none _ _ c.failed.ensures c.if-failed.false)
     c.if-cells-g.true) c.refused.ensures
 
 pub returns-then-out-g : goal.returns-then-out-g
 returns-then-out-g c =
-    let s = c in
-    found_cause _ _ _ 9 _ _ (omega arith) (frame_gets_9 s.args.shape.now s.args.structure.now s.args.memory s.args.cells
-    s.args.out _ c.open_check-opening.ensures
+    found_cause _ _ _ 9 _ _ (omega arith) (frame_gets_9 c.args.shape.now c.args.structure.now c.args.memory c.args.cells
+    c.args.out _ c.open_check-opening.ensures
     (passed_none _ _ c.failed.ensures
     c.if-failed.false) c.if-cells-g.false c.if-out-g.true)
     c.refused-then-out-g.ensures
 
 pub returns : goal.returns
 returns c =
-    let s = c in
-    frame_found s.args.shape.now s.args.structure.now s.args.memory s.args.cells s.args.out _
+    frame_found c.args.shape.now c.args.structure.now c.args.memory c.args.cells c.args.out _
     c.open_check-opening.ensures
     (passed_none _ _ c.failed.ensures
     c.if-failed.false) c.if-cells-g.false c.if-out-g.false

@@ -30,93 +30,74 @@ returns-then-structure-power3 c =
 
 pub returns-then-lopsided : goal.returns-then-lopsided
 returns-then-lopsided c =
-    let e = c in
-    let shape = e.args.shape.now in
-    let structure = e.args.structure.now in
-    let ranked = rank_test shape _ _ e.bad_rank.ensures e.if-bad_rank.false in
-    let bytes = e.if-structure-power3.false ∙ e.power3.ensures in
+    let shape = c.args.shape.now in
+    let structure = c.args.structure.now in
+    let ranked = rank_test shape _ _ c.bad_rank.ensures c.if-bad_rank.false in
+    let bytes = c.if-structure-power3.false ∙ c.power3.ensures in
     found_cause (length shape) (padded 4 shape) structure 12 _ _ (omega arith)
     (open_gets_12 shape structure _ ranked bytes (sym c.lopsided.ensures ∙ c.if-lopsided.true))
     c.refused-then-lopsided.ensures
 
 pub geo_of-g-requires : goal.geo_of-g-requires
 geo_of-g-requires c =
-    let e = c in
-    let shape = e.args.shape.now in
-    let structure = e.args.structure.now in
-    let ranked = rank_test shape _ _ e.bad_rank.ensures e.if-bad_rank.false in
-    let bytes = e.if-structure-power3.false ∙ e.power3.ensures in
+    let shape = c.args.shape.now in
+    let structure = c.args.structure.now in
+    let ranked = rank_test shape _ _ c.bad_rank.ensures c.if-bad_rank.false in
+    let bytes = c.if-structure-power3.false ∙ c.power3.ensures in
     subst (λ (l : List ℕ). ShapeReady (length shape) l structure) (sym c.shape_of.ensures) (open_ready shape structure 0 ranked bytes)
 
 pub returns-then-has_zero : goal.returns-then-has_zero
 returns-then-has_zero c =
-    let g = c in
-    let a = g in
-    let e = a in
-    let shape = e.args.shape.now in
-    let structure = e.args.structure.now in
-    let ranked = rank_test shape _ _ e.bad_rank.ensures e.if-bad_rank.false in
-    let bytes = e.if-structure-power3.false ∙ e.power3.ensures in
-    let alike = sym a.lopsided.ensures ∙ a.if-lopsided.false in
-    let measured = subst (λ (l : List ℕ). Measured (length shape) l structure g.geo_of-g.result) g.shape_of.ensures
-    g.geo_of-g.ensures in
+    let shape = c.args.shape.now in
+    let structure = c.args.structure.now in
+    let ranked = rank_test shape _ _ c.bad_rank.ensures c.if-bad_rank.false in
+    let bytes = c.if-structure-power3.false ∙ c.power3.ensures in
+    let alike = sym c.lopsided.ensures ∙ c.if-lopsided.false in
+    let measured = subst (λ (l : List ℕ). Measured (length shape) l structure c.geo_of-g.result) c.shape_of.ensures
+    c.geo_of-g.ensures in
     found_cause (length shape) (padded 4 shape) structure 3 _ _ (omega arith)
     (open_gets_3 shape structure _ ranked bytes alike _ measured (sym c.has_zero.ensures ∙ c.if-has_zero.true))
     c.refused-then-has_zero.ensures
 
 pub returns-then-too_large : goal.returns-then-too_large
 returns-then-too_large c =
-    let z = c in
-    let g = z in
-    let a = g in
-    let e = a in
-    let shape = e.args.shape.now in
-    let structure = e.args.structure.now in
-    let ranked = rank_test shape _ _ e.bad_rank.ensures e.if-bad_rank.false in
-    let bytes = e.if-structure-power3.false ∙ e.power3.ensures in
-    let alike = sym a.lopsided.ensures ∙ a.if-lopsided.false in
-    let measured = subst (λ (l : List ℕ). Measured (length shape) l structure g.geo_of-g.result) g.shape_of.ensures
-    g.geo_of-g.ensures in
-    let no_zero = sym z.has_zero.ensures ∙ z.if-has_zero.false in
+    let shape = c.args.shape.now in
+    let structure = c.args.structure.now in
+    let ranked = rank_test shape _ _ c.bad_rank.ensures c.if-bad_rank.false in
+    let bytes = c.if-structure-power3.false ∙ c.power3.ensures in
+    let alike = sym c.lopsided.ensures ∙ c.if-lopsided.false in
+    let measured = subst (λ (l : List ℕ). Measured (length shape) l structure c.geo_of-g.result) c.shape_of.ensures
+    c.geo_of-g.ensures in
+    let no_zero = sym c.has_zero.ensures ∙ c.if-has_zero.false in
     found_cause (length shape) (padded 4 shape) structure 4 _ _ (omega arith)
     (open_gets_4 shape structure _ ranked bytes alike _ measured no_zero
     (sym c.too_large.ensures ∙ c.if-too_large.true)) c.refused-then-too_large.ensures
 
 pub returns-then-memory-words_needed : goal.returns-then-memory-words_needed
 returns-then-memory-words_needed c =
-    let f = c in
-    let z = f in
-    let g = z in
-    let a = g in
-    let e = a in
-    let shape = e.args.shape.now in
-    let structure = e.args.structure.now in
-    let ranked = rank_test shape _ _ e.bad_rank.ensures e.if-bad_rank.false in
-    let bytes = e.if-structure-power3.false ∙ e.power3.ensures in
-    let alike = sym a.lopsided.ensures ∙ a.if-lopsided.false in
-    let measured = subst (λ (l : List ℕ). Measured (length shape) l structure g.geo_of-g.result) g.shape_of.ensures
-    g.geo_of-g.ensures in
-    let no_zero = sym z.has_zero.ensures ∙ z.if-has_zero.false in
-    let fits = sym f.too_large.ensures ∙ f.if-too_large.false in
+    let shape = c.args.shape.now in
+    let structure = c.args.structure.now in
+    let ranked = rank_test shape _ _ c.bad_rank.ensures c.if-bad_rank.false in
+    let bytes = c.if-structure-power3.false ∙ c.power3.ensures in
+    let alike = sym c.lopsided.ensures ∙ c.if-lopsided.false in
+    let measured = subst (λ (l : List ℕ). Measured (length shape) l structure c.geo_of-g.result) c.shape_of.ensures
+    c.geo_of-g.ensures in
+    let no_zero = sym c.has_zero.ensures ∙ c.if-has_zero.false in
+    let fits = sym c.too_large.ensures ∙ c.if-too_large.false in
     found_cause (length shape) (padded 4 shape) structure 5 _ _ (omega arith)
     (open_gets_5 shape structure _ ranked bytes alike _ measured no_zero fits _ c.words_needed.ensures
     c.if-memory-words_needed.true) c.refused-then-memory-words_needed.ensures
 
 pub returns : goal.returns
 returns c =
-    let f = c in
-    let z = f in
-    let g = z in
-    let a = g in
-    let e = a in
-    let shape = e.args.shape.now in
-    let structure = e.args.structure.now in
-    let ranked = rank_test shape _ _ e.bad_rank.ensures e.if-bad_rank.false in
-    let bytes = e.if-structure-power3.false ∙ e.power3.ensures in
-    let alike = sym a.lopsided.ensures ∙ a.if-lopsided.false in
-    let measured = subst (λ (l : List ℕ). Measured (length shape) l structure g.geo_of-g.result) g.shape_of.ensures
-    g.geo_of-g.ensures in
-    let no_zero = sym z.has_zero.ensures ∙ z.if-has_zero.false in
-    let fits = sym f.too_large.ensures ∙ f.if-too_large.false in
+    let shape = c.args.shape.now in
+    let structure = c.args.structure.now in
+    let ranked = rank_test shape _ _ c.bad_rank.ensures c.if-bad_rank.false in
+    let bytes = c.if-structure-power3.false ∙ c.power3.ensures in
+    let alike = sym c.lopsided.ensures ∙ c.if-lopsided.false in
+    let measured = subst (λ (l : List ℕ). Measured (length shape) l structure c.geo_of-g.result) c.shape_of.ensures
+    c.geo_of-g.ensures in
+    let no_zero = sym c.has_zero.ensures ∙ c.if-has_zero.false in
+    let fits = sym c.too_large.ensures ∙ c.if-too_large.false in
     open_found shape structure _ ranked bytes alike _ measured no_zero fits _ c.words_needed.ensures
     c.if-memory-words_needed.false _ c.passed.ensures.0 c.passed.ensures.1

@@ -6,17 +6,14 @@ use Rattle.causes.proofs.read_check.Goals as goal
 
 pub returns-then-places-g : goal.returns-then-places-g
 returns-then-places-g c =
-    let s = c in
-    λ kind is. read_gets_9 kind s.args.n s.args.places (s.args.g.lines * s.args.g.width) c.if-places-g.true
+    λ kind is. read_gets_9 kind c.args.n c.args.places (c.args.g.lines * c.args.g.width) c.if-places-g.true
 
 pub returns-then-n-most : goal.returns-then-n-most
 returns-then-n-most c =
-    let s = c in
-    λ kind is. read_gets_10 kind s.args.n s.args.places (s.args.g.lines * s.args.g.width) c.if-places-g.false
-    s.args.most is c.if-n-most.true
+    λ kind is. read_gets_10 kind c.args.n c.args.places (c.args.g.lines * c.args.g.width) c.if-places-g.false
+    c.args.most is c.if-n-most.true
 
 pub returns : goal.returns
 returns c =
-    let s = c in
-    λ kind is. read_gets_none kind s.args.n s.args.places (s.args.g.lines * s.args.g.width) c.if-places-g.false
-    s.args.most is c.if-n-most.false
+    λ kind is. read_gets_none kind c.args.n c.args.places (c.args.g.lines * c.args.g.width) c.if-places-g.false
+    c.args.most is c.if-n-most.false

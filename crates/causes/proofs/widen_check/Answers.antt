@@ -10,36 +10,25 @@ use Rattle.causes.proofs.widen_check.Goals as goal
 
 pub returns-then-new-power3 : goal.returns-then-new-power3
 returns-then-new-power3 c =
-    let s = c in
-    widen_gets_2 s.args.rank s.args.old.now s.args.new.now (λ e. c.if-new-power3.true (e ∙ sym c.power3.ensures))
+    widen_gets_2 c.args.rank c.args.old.now c.args.new.now (λ e. c.if-new-power3.true (e ∙ sym c.power3.ensures))
 
 pub returns-then-lopsided : goal.returns-then-lopsided
 returns-then-lopsided c =
-    let e = c in
-    let s = e in
-    widen_gets_12 s.args.rank s.args.old.now s.args.new.now (e.if-new-power3.false ∙ e.power3.ensures)
+    widen_gets_12 c.args.rank c.args.old.now c.args.new.now (c.if-new-power3.false ∙ c.power3.ensures)
     (sym c.lopsided.ensures ∙ c.if-lopsided.true)
 
 pub not_wider-requires : goal.not_wider-requires
 not_wider-requires c =
-    let e = c in
-    let s = e in
-    let held : length s.args.old.now ≡ 81 = search rules in
-    let bytes = e.if-new-power3.false ∙ e.power3.ensures in
-    (s.requires.0, s.requires.1, omega (arith, bytes_few s.args.rank s.requires.1, held), omega (arith, bytes))
+    let held : length c.args.old.now ≡ 81 = search rules in
+    let bytes = c.if-new-power3.false ∙ c.power3.ensures in
+    (c.requires.0, c.requires.1, omega (arith, bytes_few c.args.rank c.requires.1, held), omega (arith, bytes))
 
 pub returns-then-not_wider : goal.returns-then-not_wider
 returns-then-not_wider c =
-    let l = c in
-    let e = l in
-    let s = e in
-    widen_gets_19 s.args.rank s.args.old.now s.args.new.now (e.if-new-power3.false ∙ e.power3.ensures)
-    (sym l.lopsided.ensures ∙ l.if-lopsided.false) (sym c.not_wider.ensures ∙ c.if-not_wider.true)
+    widen_gets_19 c.args.rank c.args.old.now c.args.new.now (c.if-new-power3.false ∙ c.power3.ensures)
+    (sym c.lopsided.ensures ∙ c.if-lopsided.false) (sym c.not_wider.ensures ∙ c.if-not_wider.true)
 
 pub returns : goal.returns
 returns c =
-    let l = c in
-    let e = l in
-    let s = e in
-    widen_gets_none s.args.rank s.args.old.now s.args.new.now (e.if-new-power3.false ∙ e.power3.ensures)
-    (sym l.lopsided.ensures ∙ l.if-lopsided.false) (sym c.not_wider.ensures ∙ c.if-not_wider.false)
+    widen_gets_none c.args.rank c.args.old.now c.args.new.now (c.if-new-power3.false ∙ c.power3.ensures)
+    (sym c.lopsided.ensures ∙ c.if-lopsided.false) (sym c.not_wider.ensures ∙ c.if-not_wider.false)

@@ -9,16 +9,14 @@ use Rattle.clumps_text.proofs.parse_structure.Goals as goal
 
 pub parse_flags-requires : goal.parse_flags-requires
 parse_flags-requires c =
-    let s = c in
-    let m = flags_given_most (drop c.in-At.at s.args.text.now) in
-    let n : length s.args.structure.now ≡ 9 = empty_nine s.requires in
+    let m = flags_given_most (drop c.in-At.at c.args.text.now) in
+    let n : length c.args.structure.now ≡ 9 = empty_nine c.requires in
     omega (arith, c.flags_given_at-n.ensures)
 
 pub returns : goal.returns
 returns c =
-    let s = c in
-    let n : length s.args.structure.now ≡ 9 = empty_nine s.requires in
+    let n : length c.args.structure.now ≡ 9 = empty_nine c.requires in
     let f = c.parse_flags in
-    structure_parsed s.args.text.now f.result f.new.out
+    structure_parsed c.args.text.now f.result f.new.out
     c.in-At.is c.flags_given_at-n.ensures
-    s.requires (f.auto.out ∙ n) f.ensures.0 f.ensures.1
+    c.requires (f.auto.out ∙ n) f.ensures.0 f.ensures.1

@@ -9,17 +9,10 @@ use Rattle.clumps_text.proofs.put_labelled_text.Goals as goal
 pub returns : goal.returns
 unfolding labelled_text runs_name joins_name cells_name objects_name labels_name
 returns c =
-    let labels = c in
-    let numbers = labels in
-    let name = numbers in
-    let objects = name in
-    let cells = objects in
-    let joins = cells in
-    let runs = joins in
-    let s = runs.args in
+    let s = c.args in
     adds_first
-    (adds_line runs_name (decimal s.figures.runs) _ runs.put_line-a.ensures
-    (adds_line joins_name (decimal s.figures.joins) _ joins.put_line-b.ensures
-    (adds_line cells_name (decimal s.figures.cells) _ cells.put_line-c.ensures
-    (adds_line objects_name (decimal s.n) _ objects.put_line-d.ensures
-    (adds_then name.put_bytes-e.ensures (adds_then numbers.put_decimals-f.ensures labels.put.ensures))))))
+    (adds_line runs_name (decimal s.figures.runs) _ c.put_line-a.ensures
+    (adds_line joins_name (decimal s.figures.joins) _ c.put_line-b.ensures
+    (adds_line cells_name (decimal s.figures.cells) _ c.put_line-c.ensures
+    (adds_line objects_name (decimal s.n) _ c.put_line-d.ensures
+    (adds_then c.put_bytes-e.ensures (adds_then c.put_decimals-f.ensures c.put.ensures))))))

@@ -10,10 +10,9 @@ use Rattle.forest.proofs.reset.Goals as goal
 pub loop-r-preserved : goal.loop-r-preserved
 loop-r-preserved c =
     let room : stride * suc c.loop-r.r ≤ length c.loop-r.p = omega (arith, c.requires.room, c.loop-r-test.true, c.loop-r.invariant.1.1.long) in
-    let k = c in
-    let l = k.loop-r in (
+    let l = c.loop-r in (
       omega (arith, l.invariant.0),
-      (omega (arith, k.loop-r-test.true), reset_more _ _ _ _ l.invariant.0 (omega (arith, room, l.invariant.1.1.long)) l.invariant.1.1),
+      (omega (arith, c.loop-r-test.true), reset_more _ _ _ _ l.invariant.0 (omega (arith, room, l.invariant.1.1.long)) l.invariant.1.1),
     )
 
 pub returns : goal.returns

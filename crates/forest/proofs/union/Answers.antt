@@ -1,8 +1,6 @@
 -- `forest::union` meets its contract. A root above the other run is joined to that one's group; else what both finds ensure is put together
 -- once, in `roots`, and there is one root or two.
 -- Assumes nothing.
--- ---- a root above the other run
--- ---- otherwise: both finds
 use Prim.Native.Nat.{ℕ, ◌<◌, min, max}
 use mathlib.Core.Path.{◌≡◌}
 use mathlib.Core.Bool.{Bool, true, ◌&&◌}
@@ -18,7 +16,9 @@ use Rattle.forest.proofs.UnionLaws.{both_idle, both_joined, both_asked, above_jo
 use Rattle.forest.proofs.union.Goals as goal
 use Rattle.forest.proofs.union.Goals.{then-ra-rb-2, else-ra-rb-2, then-ra-rb-3, else-ra-rb-3}
 
--- the words that a root above the other run shows
+-- ---- a root above the other run
+
+-- what the test of it shows
 above : (p : List ℕ) (a b : ℕ) → eqb (parent_in p a) a && ltb b a ≡ true → (parent_in p a ≡ a) × (b < a)
 above p a b t =
     let is_own : Bool = eqb (parent_in p a) a in
@@ -37,6 +37,8 @@ pub returns-then-p-a : goal.returns-then-p-a
 returns-then-p-a c =
     let o = above c.args.p.now c.args.a c.args.b c.if-p-a.true in
     λ n P ha hb. rw c.join.ensures (above_joined _ _ n _ _ _ P ha hb o.0 o.1 (c.find-root.ensures n P hb))
+
+-- ---- otherwise: both finds
 
 pub returns-then-p-a-2 : goal.returns-then-p-a-2
 returns-then-p-a-2 c = λ n P ha hb. one_parent _ n _ _ P ha hb c.if-p-a-2.true

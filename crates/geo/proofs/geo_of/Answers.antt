@@ -6,14 +6,12 @@ use Rattle.geo.proofs.geo_of.Goals as goal
 
 pub left_byte-left-requires : goal.left_byte-left-requires
 left_byte-left-requires c =
-    let s = c in
-    let r = rank_limits s.args.rank s.args.shape s.requires.ranked in
-    (r.0, r.1, s.requires.bytes)
+    let r = rank_limits c.args.rank c.args.shape c.requires.ranked in
+    (r.0, r.1, c.requires.bytes)
 
 pub returns : goal.returns
 returns c =
-    let s = c in
     let d = c.leading_dims-dims in
-    measured s.args.rank s.args.shape s.args.structure.now s.requires d.result c.limited_lines-lines.result
+    measured c.args.rank c.args.shape c.args.structure.now c.requires d.result c.limited_lines-lines.result
     c.last_dim-width.result c.left_byte-left.result
     d.ensures c.limited_lines-lines.ensures c.last_dim-width.ensures c.left_byte-left.ensures

@@ -15,6 +15,5 @@ returns-then-rank-eq3 c = three_of_3 c.args.rank c.args.shape c.if-rank-eq3.true
 
 pub returns : goal.returns
 returns c =
-    let s = c in
-    let r = rank_limits s.args.rank s.args.shape s.requires in
-    three_of_4 s.args.rank s.args.shape (omega (arith, c.if-rank-eq1.false, c.if-rank-eq2.false, c.if-rank-eq3.false))
+    let r = rank_limits c.args.rank c.args.shape c.requires in
+    three_of_4 c.args.rank c.args.shape (omega (arith, c.if-rank-eq1.false, c.if-rank-eq2.false, c.if-rank-eq3.false))

@@ -11,9 +11,7 @@ pub overflow_sub-result : goal.overflow_sub-result
 overflow_sub-result c = omega (arith, power_three c.args.rank c.requires.0, c.power3.ensures)
 
 pub bounds-structure-power3 : goal.bounds-structure-power3
-bounds-structure-power3 c =
-    let s = c in
-    omega (arith, power_three s.args.rank s.requires.0, c.power3.ensures, s.requires.2)
+bounds-structure-power3 c = omega (arith, power_three c.args.rank c.requires.0, c.power3.ensures, c.requires.2)
 
 pub returns : goal.returns
 unfolding on

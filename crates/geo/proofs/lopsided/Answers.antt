@@ -13,26 +13,22 @@ overflow_sub-last c = omega (arith, power_three c.args.rank c.requires.0, c.powe
 
 pub loop-i-init : goal.loop-i-init
 loop-i-init c =
-    let s = c in
-    let three = power_three s.args.rank s.requires.0 in
+    let three = power_three c.args.rank c.requires.0 in
     (omega (arith, three, c.power3-last.ensures), omega arith, unfold any in refl)
 
 pub returns-then-structure-i : goal.returns-then-structure-i
 unfolding on
 returns-then-structure-i c =
-    let s = c in
     let l = c.loop-i in
-    pair_differs s.args.rank _ s.args.structure.now l.invariant.0 l.i l.invariant.1 c.if-structure-i.true
+    pair_differs c.args.rank _ c.args.structure.now l.invariant.0 l.i l.invariant.1 c.if-structure-i.true
 
 pub loop-i-preserved : goal.loop-i-preserved
 unfolding on
 loop-i-preserved c =
-    let s = c in
     let l = c.loop-i in
-    (l.invariant.0, omega arith, pair_alike s.args.rank _ s.args.structure.now l.invariant.0 l.i l.invariant.2 c.if-structure-i.false)
+    (l.invariant.0, omega arith, pair_alike c.args.rank _ c.args.structure.now l.invariant.0 l.i l.invariant.2 c.if-structure-i.false)
 
 pub returns : goal.returns
 returns c =
-    let s = c in
     let l = c.loop-i in
-    pairs_alike s.args.rank _ s.args.structure.now l.invariant.0 l.i l.invariant.2 (omega arith)
+    pairs_alike c.args.rank _ c.args.structure.now l.invariant.0 l.i l.invariant.2 (omega arith)

@@ -9,34 +9,29 @@ use Rattle.geo.proofs.not_wider.Goals as goal
 
 pub returns-then-left_byte : goal.returns-then-left_byte
 returns-then-left_byte c =
-    let s = c in
-    left_tells s.args.rank s.args.old.now s.args.new.now
-    (left_test s.args.rank _ _ _ _ c.left_byte.ensures c.left_byte-2.ensures ∙ c.if-left_byte.true)
+    left_tells c.args.rank c.args.old.now c.args.new.now
+    (left_test c.args.rank _ _ _ _ c.left_byte.ensures c.left_byte-2.ensures ∙ c.if-left_byte.true)
 
 pub loop-i-init : goal.loop-i-init
 loop-i-init c =
-    let s = c in
-    let alike = left_test s.args.rank s.args.old.now s.args.new.now _ _ c.left_byte.ensures
+    let alike = left_test c.args.rank c.args.old.now c.args.new.now _ _ c.left_byte.ensures
     c.left_byte-2.ensures ∙ c.if-left_byte.false in
     (c.power3-count.ensures, omega arith, alike, unfold any in refl)
 
 pub returns-then-old-i : goal.returns-then-old-i
 unfolding on
 returns-then-old-i c =
-    let s = c in
     let l = c.loop-i in
-    drop_tells s.args.rank s.args.old.now s.args.new.now l.i (omega (arith, l.invariant.0)) c.if-old-i.true
+    drop_tells c.args.rank c.args.old.now c.args.new.now l.i (omega (arith, l.invariant.0)) c.if-old-i.true
 
 pub loop-i-preserved : goal.loop-i-preserved
 unfolding on
 loop-i-preserved c =
-    let s = c in
     let l = c.loop-i in
-    let kept = one_more_kept s.args.rank s.args.old.now s.args.new.now l.i l.invariant.3 c.if-old-i.false in
+    let kept = one_more_kept c.args.rank c.args.old.now c.args.new.now l.i l.invariant.3 c.if-old-i.false in
     (l.invariant.0, omega arith, l.invariant.2, kept)
 
 pub returns : goal.returns
 returns c =
-    let s = c in
     let l = c.loop-i in
-    all_kept s.args.rank s.args.old.now s.args.new.now l.i (omega (arith, l.invariant.0)) l.invariant.2 l.invariant.3
+    all_kept c.args.rank c.args.old.now c.args.new.now l.i (omega (arith, l.invariant.0)) l.invariant.2 l.invariant.3

@@ -4,12 +4,9 @@ use Rattle.link.proofs.PartLaws.{lent_lines, lent_back}
 use Rattle.link.proofs.link_lines.Goals as goal
 
 pub link-requires : goal.link-requires
-link-requires c =
-    let s = c in
-    lent_lines s.args.lines s.args.words.now s.args.line s.args.m s.requires.0 s.requires.1
+link-requires c = lent_lines c.args.lines c.args.words.now c.args.line c.args.m c.requires.0 c.requires.1
 
 pub returns : goal.returns
 returns c =
-    let s = c in
-    lent_back s.args.lines s.args.words.now s.args.line s.args.m s.requires.0 s.requires.1 s.args.by
+    lent_back c.args.lines c.args.words.now c.args.line c.args.m c.requires.0 c.requires.1 c.args.by
     c.link.new.p c.link.result c.link.ensures

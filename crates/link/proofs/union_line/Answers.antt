@@ -17,50 +17,45 @@ use Rattle.link.proofs.union_line.Goals as goal
 pub returns-then-words-line : goal.returns-then-words-line
 returns-then-words-line c =
     let three : length c.args.g.dims ≡ 3 = search rules in
-    let s = c in
-    subst (λ (es : List Edge). UnitedIn s.args.g.lines s.args.words.now s.args.words.now
-    (runs_to s.args.words.now s.args.line) es 0)
-    (sym (no_touches s.args.g s.args.structure.now s.args.words.now s.args.line s.requires (three)
-    (c.if-words-line.true ∙ ap (λ (x : ℕ). line_start s.args.words.now x) (add-one s.args.line))))
-    (in_none s.args.g.lines s.args.words.now s.args.line s.requires.lines)
+    subst (λ (es : List Edge). UnitedIn c.args.g.lines c.args.words.now c.args.words.now
+    (runs_to c.args.words.now c.args.line) es 0)
+    (sym (no_touches c.args.g c.args.structure.now c.args.words.now c.args.line c.requires three
+    (c.if-words-line.true ∙ ap (λ (x : ℕ). line_start c.args.words.now x) (add-one c.args.line))))
+    (in_none c.args.g.lines c.args.words.now c.args.line c.requires.lines)
 
 pub loop-code-init : goal.loop-code-init
 loop-code-init c =
-    let s = c in
-    (omega arith, (unfold gather in (in_none s.args.g.lines s.args.words.now s.args.line s.requires.lines)))
+    (omega arith, (unfold gather in (in_none c.args.g.lines c.args.words.now c.args.line c.requires.lines)))
 
 pub union_by-joins-requires : goal.union_by-joins-requires
-union_by-joins-requires c =
-    let s = c in (
-      record {
-        leading = s.requires.leading;
-        bytes = s.requires.bytes;
-        lines = in_ready s.args.g.lines s.args.words.now s.args.line
-            s.requires.lines c.loop-code.words _ c.loop-code.joins c.loop-code.invariant.1;
-      },
-      c.coords-c.ensures,
-      omega (arith, c.backward_count-count.ensures, c.loop-code-test.true),
-    )
+union_by-joins-requires c = (
+  record {
+    leading = c.requires.leading;
+    bytes = c.requires.bytes;
+    lines = in_ready c.args.g.lines c.args.words.now c.args.line
+        c.requires.lines c.loop-code.words _ c.loop-code.joins c.loop-code.invariant.1;
+  },
+  c.coords-c.ensures,
+  omega (arith, c.backward_count-count.ensures, c.loop-code-test.true),
+)
 
 pub overflow_add-joins : goal.overflow_add-joins
 overflow_add-joins c =
     let three : length c.args.g.dims ≡ 3 = search rules in
-    let s = c in
     let l = c.loop-code in
-    let most = joins_most s.args.g s.args.structure.now s.args.words.now s.args.line s.requires (three)
+    let most = joins_most c.args.g c.args.structure.now c.args.words.now c.args.line c.requires three
     c.union_by-joins.new.words (l.code + 1) (l.joins + c.union_by-joins.result)
-    (touches_more s.args.g s.args.structure.now s.args.words.now s.args.line s.requires (three) l.words l.code
+    (touches_more c.args.g c.args.structure.now c.args.words.now c.args.line c.requires three l.words l.code
     l.joins l.invariant.1 c.union_by-joins.new.words c.union_by-joins.result
     c.union_by-joins.ensures) in
-    omega (arith, most, s.requires.lines.room)
+    omega (arith, most, c.requires.lines.room)
 
 pub loop-code-preserved : goal.loop-code-preserved
 loop-code-preserved c =
     let three : length c.args.g.dims ≡ 3 = search rules in
-    let s = c in
     let l = c.loop-code in (
       search rules,
-      touches_more s.args.g s.args.structure.now s.args.words.now s.args.line s.requires (three) l.words
+      touches_more c.args.g c.args.structure.now c.args.words.now c.args.line c.requires three l.words
           l.code l.joins l.invariant.1 c.union_by-joins.new.words c.union_by-joins.result
           c.union_by-joins.ensures,
     )
@@ -68,11 +63,10 @@ loop-code-preserved c =
 pub returns : goal.returns
 returns c =
     let three : length c.args.g.dims ≡ 3 = search rules in
-    let s = c in
     let l = c.loop-code in
-    subst (λ (es : List Edge). UnitedIn s.args.g.lines s.args.words.now l.words
-    (runs_to s.args.words.now s.args.line) es l.joins)
-    (ap (gather (touches_by_in s.args.g s.args.structure.now s.args.words.now s.args.line) 0)
-    (let e : l.code ≡ 3 ^ s.args.g.leads / 2 =
-    omega (arith, l.invariant.0, c.loop-code-test.false, c.backward_count-count.ensures) in e) ∙ touches_all s.args.g
-    s.args.structure.now s.args.words.now s.args.line s.requires (three)) l.invariant.1
+    subst (λ (es : List Edge). UnitedIn c.args.g.lines c.args.words.now l.words
+    (runs_to c.args.words.now c.args.line) es l.joins)
+    (ap (gather (touches_by_in c.args.g c.args.structure.now c.args.words.now c.args.line) 0)
+    (let e : l.code ≡ 3 ^ c.args.g.leads / 2 =
+    omega (arith, l.invariant.0, c.loop-code-test.false, c.backward_count-count.ensures) in e) ∙ touches_all c.args.g
+    c.args.structure.now c.args.words.now c.args.line c.requires three) l.invariant.1

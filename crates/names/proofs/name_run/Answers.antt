@@ -8,6 +8,4 @@ pub overflow_add-words : goal.overflow_add-words
 overflow_add-words c = record { fits = omega (arith, count_low c.requires) }
 
 pub returns : goal.returns
-returns c =
-    let p = c in
-    name_turn p.requires p.word-up.ensures c.word-number.ensures
+returns c = name_turn c.requires c.word-up.ensures c.word-number.ensures

@@ -9,8 +9,7 @@ pub returns : goal.returns
 returns c =
     let shape =
     c.args.shape in
-    let third = c in
     rw (← four shape (search rules))
-    (adds_then third.put-second.ensures
-    (adds_then third.put-third.ensures
-    (adds_then third.put-fourth.ensures c.put.ensures)))
+    (adds_then c.put-second.ensures
+    (adds_then c.put-third.ensures
+    (adds_then c.put-fourth.ensures c.put.ensures)))

@@ -10,8 +10,7 @@ pub returns-then-rec-lt-RECORD_WORDS : goal.returns-then-rec-lt-RECORD_WORDS
 returns-then-rec-lt-RECORD_WORDS c = sym (record_short c.args.rec.now c.args.answer (omega arith))
 
 pub returns-then-answer-lt-ANSWER_WORDS : goal.returns-then-answer-lt-ANSWER_WORDS
-returns-then-answer-lt-ANSWER_WORDS c =
-    sym (answer_short c.args.rec.now c.args.answer (omega arith) (omega arith))
+returns-then-answer-lt-ANSWER_WORDS c = sym (answer_short c.args.rec.now c.args.answer (omega arith) (omega arith))
 
 pub returns-then-not-are_bytes : goal.returns-then-not-are_bytes
 returns-then-not-are_bytes c =

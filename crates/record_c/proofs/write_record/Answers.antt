@@ -7,7 +7,6 @@ use Rattle.record_c.proofs.write_record.Goals as goal
 pub returns : goal.returns
 unfolding words_of
 returns c =
-    let shape = c in
-    (adds_first (adds_then shape.put-next.ensures
-    (adds_then shape.put_shape-third.ensures (adds_then c.put_bytes-last.ensures
+    (adds_first (adds_then c.put-next.ensures
+    (adds_then c.put_shape-third.ensures (adds_then c.put_bytes-last.ensures
     c.put_figures.ensures)))).now_is

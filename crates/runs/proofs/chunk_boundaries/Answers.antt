@@ -7,30 +7,26 @@ use Rattle.runs.proofs.chunk_boundaries.Goals as goal
 
 pub edges-requires : goal.edges-requires
 edges-requires c =
-    let s = c in
-    let a = s.args in
+    let a = c.args in
     let e = chunk_edges a.left a.c.m a.c.carry a.x c.if-left.true in
-    subst (BoundaryRoom a.words.now a.at a.k a.x) e s.requires
+    subst (BoundaryRoom a.words.now a.at a.k a.x) e c.requires
 
 pub singles-requires : goal.singles-requires
 singles-requires c =
-    let s = c in
-    let a = s.args in
+    let a = c.args in
     let e = chunk_alone a.left a.c.m a.c.carry a.x c.if-left.false in
-    subst (BoundaryRoom a.words.now a.at a.k a.x) e s.requires
+    subst (BoundaryRoom a.words.now a.at a.k a.x) e c.requires
 
 pub returns-then-left : goal.returns-then-left
 returns-then-left c =
-    let t = c in
-    let a = t.args in
+    let a = c.args in
     let r = c.edges in
-    let e = chunk_edges a.left a.c.m a.c.carry a.x t.if-left.true in
+    let e = chunk_edges a.left a.c.m a.c.carry a.x c.if-left.true in
     subst (Put a.words.now r.new.words a.at a.k r.result) (sym e) r.ensures
 
 pub returns-else-left : goal.returns-else-left
 returns-else-left c =
-    let t = c in
-    let a = t.args in
+    let a = c.args in
     let r = c.singles in
-    let e = chunk_alone a.left a.c.m a.c.carry a.x t.if-left.false in
+    let e = chunk_alone a.left a.c.m a.c.carry a.x c.if-left.false in
     subst (Put a.words.now r.new.words a.at a.k r.result) (sym e) r.ensures

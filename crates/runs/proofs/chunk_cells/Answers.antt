@@ -5,6 +5,4 @@ use Rattle.runs.proofs.ChunkCellLaws.{edgeless_ones}
 use Rattle.runs.proofs.chunk_cells.Goals as goal
 
 pub returns-then-c-eq0 : goal.returns-then-c-eq0
-returns-then-c-eq0 c =
-    let s = c in
-    edgeless_ones s.args.c.m s.args.c.carry (omega arith) s.requires c.if-c-eq0.true
+returns-then-c-eq0 c = edgeless_ones c.args.c.m c.args.c.carry (omega arith) c.requires c.if-c-eq0.true

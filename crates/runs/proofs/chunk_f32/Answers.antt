@@ -18,13 +18,11 @@ loop-i-init c = (omega arith, refl, copy_none _ _)
 pub loop-j-preserved : goal.loop-j-preserved
 loop-j-preserved c =
     let v = c.loop-j in
-    let o = c in
-    let s = o in
-    let flags = map nz_f s.args.line.now in
-    let i = o.loop-i.i + v.j in
-    let e : s.args.x + o.loop-i.i + v.j ≡ s.args.x + i = omega arith in
-    let next : i + 1 ≡ o.loop-i.i + (v.j + 1) = omega arith in
-    let cell = flag_of nz_f s.args.line.now (s.args.x + o.loop-i.i + v.j) nan (omega (arith, s.requires.many)) in
+    let flags = map nz_f c.args.line.now in
+    let i = c.loop-i.i + v.j in
+    let e : c.args.x + c.loop-i.i + v.j ≡ c.args.x + i = omega arith in
+    let next : i + 1 ≡ c.loop-i.i + (v.j + 1) = omega arith in
+    let cell = flag_of nz_f c.args.line.now (c.args.x + c.loop-i.i + v.j) nan (omega (arith, c.requires.many)) in
     let flag = c.nz_f32.ensures ∙ cell ∙ ap (λ (n : ℕ). get_or flags n false) e in
     let more = copy_turn _ (omega arith) (nz_byte c.nz_f32.result ∙ flag) v.invariant.1 in
-    (omega arith, subst (Copied flags s.args.x (set v.b i (bool_byte c.nz_f32.result))) next more)
+    (omega arith, subst (Copied flags c.args.x (set v.b i (bool_byte c.nz_f32.result))) next more)

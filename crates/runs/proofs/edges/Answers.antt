@@ -3,31 +3,22 @@
 use Prim.Native.Nat.{◌+◌}
 use mathlib.Core.Path.{◌≡◌, refl}
 use native.Mathlib.Omega.{arith}
-use Rattle.runs.specs.Boundaries.{places}
-use Rattle.runs.proofs.BoundaryLaws.{Rest, rest_same, rest_took, rest_none}
+use Rattle.runs.proofs.BoundaryLaws.{rest_same, rest_took, rest_none}
 use Rattle.runs.proofs.MaskLaws.{no_place}
 use Rattle.runs.proofs.edges.Goals as goal
 
 pub returns-then-e-eq0 : goal.returns-then-e-eq0
 returns-then-e-eq0 c =
-    let one : let t = c in let a = t.args in Rest a.words.now a.at a.k (places 64 a.e a.x) c.next_edge-e.new.words (t.loop-e.k + 1) (places 64 c.next_edge-e.result a.x) = let t = c in
-    let l = t.loop-e in
-    rest_took t.args.x l.e c.next_edge-e.result l.invariant c.next_edge-e.ensures in
-    let o = c in
-    let s = o in
-    rest_none (rest_same refl refl (no_place o.next_edge-e.result s.args.x c.if-e-eq0.true) (one))
+    let one = rest_took c.args.x c.loop-e.e c.next_edge-e.result c.loop-e.invariant c.next_edge-e.ensures in
+    rest_none (rest_same refl refl (no_place c.next_edge-e.result c.args.x c.if-e-eq0.true) one)
 
+-- the next boundary is written, and the one after it
 pub loop-e-preserved : goal.loop-e-preserved
 loop-e-preserved c =
-    let one : let t = c in let a = t.args in Rest a.words.now a.at a.k (places 64 a.e a.x) c.next_edge-e.new.words (t.loop-e.k + 1) (places 64 c.next_edge-e.result a.x) = let t = c in
-    let l = t.loop-e in
-    rest_took t.args.x l.e c.next_edge-e.result l.invariant c.next_edge-e.ensures in
-    let two : let t = c in let a = t.args in Rest a.words.now a.at a.k (places 64 a.e a.x) c.next_edge-e-in-loop-e.new.words (t.loop-e.k + 2) (places 64 c.next_edge-e-in-loop-e.result a.x) = let o = c in
-    let t = o in
-    let k : t.loop-e.k + 1 + 1 ≡ t.loop-e.k + 2 = omega arith in
-    rest_same refl k refl
-    (rest_took t.args.x o.next_edge-e.result c.next_edge-e-in-loop-e.result (one) c.next_edge-e-in-loop-e.ensures) in
-    two
+    let one = rest_took c.args.x c.loop-e.e c.next_edge-e.result c.loop-e.invariant c.next_edge-e.ensures in
+    let two = rest_took c.args.x c.next_edge-e.result c.next_edge-e-in-loop-e.result one c.next_edge-e-in-loop-e.ensures in
+    let k : c.loop-e.k + 1 + 1 ≡ c.loop-e.k + 2 = omega arith in
+    rest_same refl k refl two
 
 pub returns : goal.returns
 returns c =

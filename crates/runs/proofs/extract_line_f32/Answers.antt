@@ -8,44 +8,33 @@ use Rattle.runs.proofs.extract_line_f32.Goals as goal
 
 pub returns : goal.returns
 returns c =
-    let m = c in
-    let t = m in
-    let n = length-map t.args.line.now nz_f in
-    going_end t.loop-x.invariant m.mask_f32-m-2.result m.mask_f32-m-2.ensures
-    (omega (arith, t.loop-x-test.false, t.loop-x.invariant.inside)) c.chunk_boundaries.ensures
+    let n = length-map c.args.line.now nz_f in
+    going_end c.loop-x.invariant c.mask_f32-m-2.result c.mask_f32-m-2.ensures
+    (omega (arith, c.loop-x-test.false, c.loop-x.invariant.inside)) c.chunk_boundaries.ensures
     c.chunk_cells.ensures
 
 pub loop-x-init : goal.loop-x-init
 loop-x-init c = going_begin
 
 pub chunk_boundaries-k-requires : goal.chunk_boundaries-k-requires
-chunk_boundaries-k-requires c =
-    let l = c in
-    going_fits l.loop-x.invariant c.mask_f32-m.result c.mask_f32-m.ensures l.requires
+chunk_boundaries-k-requires c = going_fits c.loop-x.invariant c.mask_f32-m.result c.mask_f32-m.ensures c.requires
 
 pub overflow_add-cells : goal.overflow_add-cells
 overflow_add-cells c =
-    let m = c in
-    let l = m in
-    let r = l.requires in
-    omega (arith, going_sum l.loop-x.invariant m.mask_f32-m.result m.mask_f32-m.ensures c.chunk_cells-cells.ensures r)
+    let r = c.requires in
+    omega (arith, going_sum c.loop-x.invariant c.mask_f32-m.result c.mask_f32-m.ensures c.chunk_cells-cells.ensures r)
 
 pub loop-x-preserved : goal.loop-x-preserved
 loop-x-preserved c =
-    let t = c in
     let m = c.mask_f32-m in
-    let n = length-map t.args.line.now nz_f in
-    going_turn t.loop-x.invariant m.result m.ensures (omega (arith, t.loop-x-test.true, t.loop-x.invariant.inside))
+    let n = length-map c.args.line.now nz_f in
+    going_turn c.loop-x.invariant m.result m.ensures (omega (arith, c.loop-x-test.true, c.loop-x.invariant.inside))
     c.chunk_boundaries-k.ensures c.chunk_cells-cells.ensures
 
 pub chunk_boundaries-requires : goal.chunk_boundaries-requires
-chunk_boundaries-requires c =
-    let l = c in
-    going_fits l.loop-x.invariant c.mask_f32-m-2.result c.mask_f32-m-2.ensures l.requires
+chunk_boundaries-requires c = going_fits c.loop-x.invariant c.mask_f32-m-2.result c.mask_f32-m-2.ensures c.requires
 
 pub overflow_add-result : goal.overflow_add-result
 overflow_add-result c =
-    let m = c in
-    let l = m in
-    let r = l.requires in
-    omega (arith, going_sum l.loop-x.invariant m.mask_f32-m-2.result m.mask_f32-m-2.ensures c.chunk_cells.ensures r)
+    let r = c.requires in
+    omega (arith, going_sum c.loop-x.invariant c.mask_f32-m-2.result c.mask_f32-m-2.ensures c.chunk_cells.ensures r)

@@ -12,7 +12,6 @@ loop-j-init c = (omega arith, refl, λ l h. refl)
 
 pub loop-j-preserved : goal.loop-j-preserved
 loop-j-preserved c =
-    let o = c in
-    let v = o.loop-j in
+    let v = c.loop-j in
     let r = c.mask8 in
     (omega arith, omega arith, λ l h. byte_turn l v.j v.m r.result (omega arith) (v.invariant.2 l h) (r.ensures l h))

@@ -1,13 +1,11 @@
 -- `mask8` meets its contract: after each turn s is the mask of the first i bytes from j on.
 -- Assumes nothing.
 use Prim.Native.Nat.{◌+◌}
-use mathlib.Core.Path.{◌≡◌, refl}
-use mathlib.Core.Bool.{Bool}
-use mathlib.Core.List.{List}
+use mathlib.Core.Path.{refl}
 use native.Mathlib.Omega.{arith}
-use lib.ListN.{drop, get_or}
+use lib.ListN.{drop}
 use lib.Pow.{pow_mono}
-use Rattle.runs.specs.Masks.{mask_of, Weighs}
+use Rattle.runs.specs.Masks.{mask_of}
 use Rattle.runs.proofs.MaskLaws.{mask_lt, eight_turn}
 use Rattle.runs.proofs.mask8.Goals as goal
 
@@ -17,20 +15,16 @@ loop-i-init c = (omega arith, λ l h. refl)
 
 pub overflow_add-s-in-loop-i : goal.overflow_add-s-in-loop-i
 overflow_add-s-in-loop-i c =
-    let more : let v = c.loop-i in let a = c.args in (l : List Bool) → Weighs l a.t 64 → v.s + get_or a.t (a.j + v.i) 0 ≡ mask_of (v.i + 1) (drop a.j l) = (λ l h. let v = c.loop-i in
-    let a = c.args in
-    let p = c.requires in
-    eight_turn l a.t a.j v.i v.s h (omega (arith, p.inside, p.eight)) p.eight c.loop-i-test.true (v.invariant.1 l h)) in
     let v = c.loop-i in
-    let a = c.args in
     let p = c.requires in
-    let e = more p.flags p.weighed in
-    omega (arith, mask_lt (v.i + 1) (drop a.j p.flags), pow_mono {i = v.i + 1} {j = 8} (omega arith))
+    let e = eight_turn p.flags c.args.t c.args.j v.i v.s p.weighed (omega (arith, p.inside, p.eight)) p.eight c.loop-i-test.true
+    (v.invariant.1 p.flags p.weighed) in
+    omega (arith, mask_lt (v.i + 1) (drop c.args.j p.flags), pow_mono {i = v.i + 1} {j = 8} (omega arith))
 
 pub loop-i-preserved : goal.loop-i-preserved
 loop-i-preserved c =
-    let more : let v = c.loop-i in let a = c.args in (l : List Bool) → Weighs l a.t 64 → v.s + get_or a.t (a.j + v.i) 0 ≡ mask_of (v.i + 1) (drop a.j l) = (λ l h. let v = c.loop-i in
-    let a = c.args in
-    let p = c.requires in
-    eight_turn l a.t a.j v.i v.s h (omega (arith, p.inside, p.eight)) p.eight c.loop-i-test.true (v.invariant.1 l h)) in
-    (omega arith, more)
+    let v = c.loop-i in
+    let p = c.requires in (
+      omega arith,
+      λ l h. eight_turn l c.args.t c.args.j v.i v.s h (omega (arith, p.inside, p.eight)) p.eight c.loop-i-test.true (v.invariant.1 l h),
+    )

@@ -20,9 +20,8 @@ edge-requires c =
 
 pub returns : goal.returns
 returns c =
-    let s = c in
-    let a = s.args in
-    let p = s.requires.some in
+    let a = c.args in
+    let p = c.requires.some in
     record {
       place = a.x + count_trailing_zeros 64 a.e;
       lowest = next_place a.e a.x (λ z. omega arith) (omega arith);

@@ -13,20 +13,16 @@ overflow_add-roots c = byte_fits (search byte_le) (roots_few _ _ _ c.loop-r.inva
 
 pub loop-r-preserved : goal.loop-r-preserved
 loop-r-preserved c =
-    let k = c in
-    let l = k in
-    block_more _ _ _ (λ j. omega (arith, k.shared_slice_known-in-loop-r-4-1.given j)) l.loop-r.invariant (omega arith) (omega arith)
+    block_more _ _ _ (λ j. omega (arith, c.shared_slice_known-in-loop-r-4-1.given j)) c.loop-r.invariant (omega arith) (omega arith)
     c.wrapping_sub_u32.ensures.value c.wrapping_add_u32-cells.ensures.value (omega arith) c.wrapping_sub_u32-last.ensures.value
 
 -- the sum of all, and its first part
 pub overflow_add-sizes-2 : goal.overflow_add-sizes-2
 overflow_add-sizes-2 c =
-    let l = c in
-    let s = l in
     omega (
       arith,
-      sizes_small _ _ _ (λ k. omega (arith, l.shared_slice_known-1.given k)) l.loop-r.invariant.so_far
-          (omega (arith, l.loop-r.invariant.upto, s.requires.ready.few)),
+      sizes_small _ _ _ (λ k. omega (arith, c.shared_slice_known-1.given k)) c.loop-r.invariant.so_far
+          (omega (arith, c.loop-r.invariant.upto, c.requires.ready.few)),
     )
 
 pub overflow_add-sizes : goal.overflow_add-sizes

@@ -11,21 +11,19 @@ pub loop-i-init : goal.loop-i-init
 loop-i-init c = lines_none _ _ _ _ _ _ c.requires.first
 
 pub returns-then-b-a : goal.returns-then-b-a
-returns-then-b-a c = let l = c in line_wrong _ _ _ _ l.loop-i.invariant (omega arith) c.if-b-a.true
+returns-then-b-a c = line_wrong _ _ _ _ c.loop-i.invariant (omega arith) c.if-b-a.true
 
 pub overflow_add-falls-then-a-b : goal.overflow_add-falls-then-a-b
 overflow_add-falls-then-a-b c =
-    let l = c in
-    byte_fits (search byte_le) (falls_few _ _ _ _ l.loop-i.invariant) (omega (arith, l.ranges.fed.fits))
+    byte_fits (search byte_le) (falls_few _ _ _ _ c.loop-i.invariant) (omega (arith, c.ranges.fed.fits))
 
 pub loop-i-preserved : goal.loop-i-preserved
 loop-i-preserved c =
-    let e = c in
-    let T = e.loop-i.invariant in
+    let T = c.loop-i.invariant in
     elim c.if-a-b.branch [
-      | then-a-b+else-end-g w ↦ lines_more _ _ _ _ T (omega arith) e.if-b-a.false w.if-a-b.true (byte_gap _)
+      | then-a-b+else-end-g w ↦ lines_more _ _ _ _ T (omega arith) c.if-b-a.false w.if-a-b.true (byte_gap _)
           (λ j. omega (arith, c.type_inv.words j)) w.if-end-g.false w.falls-is w.end-is
-      | else-a-b w ↦ lines_empty _ _ _ _ T (omega arith) e.if-b-a.false w.if-a-b.false w.falls-is w.end-is
+      | else-a-b w ↦ lines_empty _ _ _ _ T (omega arith) c.if-b-a.false w.if-a-b.false w.falls-is w.end-is
     ]
 
 pub returns : goal.returns

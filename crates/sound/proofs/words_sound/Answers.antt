@@ -9,18 +9,13 @@ pub returns-then-words-runs : goal.returns-then-words-runs
 returns-then-words-runs c = start_wrong _ _ _ _ _ _ c.most_runs-most.ensures c.if-words-runs.true
 
 pub returns-then-not-lines : goal.returns-then-not-lines
-returns-then-not-lines c =
-    let l = c in
-    lines_wrong _ _ _ _ _ _ l.requires l.lines_pass-lines.ensures c.if-not-lines.true
+returns-then-not-lines c = lines_wrong _ _ _ _ _ _ c.requires c.lines_pass-lines.ensures c.if-not-lines.true
 
 pub overflow_sub-result : goal.overflow_sub-result
 overflow_sub-result c = roots_few _ _ _ c.runs_pass-found.ensures
 
 pub returns : goal.returns
 returns c =
-    let f = c in
-    let l = f in
-    let m = l in
-    let P = m.requires in
-    answer _ _ _ _ _ _ P l.lines_pass-lines.ensures (lines_ready _ _ _ _ _ m.most_runs-most.ensures P _ l.if-words-runs.false).first
-    f.if-not-lines.false f.runs_pass-found.ensures
+    let P = c.requires in
+    answer _ _ _ _ _ _ P c.lines_pass-lines.ensures (lines_ready _ _ _ _ _ c.most_runs-most.ensures P _ c.if-words-runs.false).first
+    c.if-not-lines.false c.runs_pass-found.ensures

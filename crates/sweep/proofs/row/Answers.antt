@@ -15,21 +15,18 @@ unite-requires c = row_sized c.requires.sized
 
 pub loop-m-preserved : goal.loop-m-preserved
 loop-m-preserved c =
-    let s = c in
     let l = c.loop-m in
-    row_turn s.requires.sized l.invariant (omega arith)
+    row_turn c.requires.sized l.invariant (omega arith)
     (sym c.starts_before.ensures ∙ c.if-starts_before.true)
     c.unite.ensures
 
 pub returns-else-starts_before : goal.returns-else-starts_before
 returns-else-starts_before c =
-    let s = c in
-    rw (off_back s.args.lo s.requires.is_lo)
-    at (row_done s.requires.sized c.loop-m.invariant s.requires.order
+    rw (off_back c.args.lo c.requires.is_lo)
+    at (row_done c.requires.sized c.loop-m.invariant c.requires.order
     (λ h. sym c.starts_before.ensures ∙ c.if-starts_before.false))
 
 pub returns-after-loop-m : goal.returns-after-loop-m
 returns-after-loop-m c =
-    let s = c in
-    rw (off_back s.args.lo s.requires.is_lo)
-    at (row_done s.requires.sized c.loop-m.invariant s.requires.order (λ h. absurd (omega arith)))
+    rw (off_back c.args.lo c.requires.is_lo)
+    at (row_done c.requires.sized c.loop-m.invariant c.requires.order (λ h. absurd (omega arith)))

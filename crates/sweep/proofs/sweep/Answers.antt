@@ -11,21 +11,17 @@ loop-i-init c = sweep_begins c.requires.lines
 
 pub row-joins-requires : goal.row-joins-requires
 row-joins-requires c =
-    let s = c in
-    let x = off_le s.args.lo s.requires.is_lo in
-    let y = off_le s.args.hi s.requires.is_hi in
-    row_asked s.requires.lines c.loop-i.invariant (omega arith) c.loop-i-test.true
+    let x = off_le c.args.lo c.requires.is_lo in
+    let y = off_le c.args.hi c.requires.is_hi in
+    row_asked c.requires.lines c.loop-i.invariant (omega arith) c.loop-i-test.true
     c.skip-j.ensures
 
 pub loop-i-preserved : goal.loop-i-preserved
 loop-i-preserved c =
-    let s = c in
     let l = c.loop-i in
-    sweep_turn s.requires.lines l.invariant c.loop-i-test.true
+    sweep_turn c.requires.lines l.invariant c.loop-i-test.true
     c.skip-j.ensures c.row-joins.ensures
 
 -- no more joins than runs
 pub overflow_add-joins : goal.overflow_add-joins
-overflow_add-joins c =
-    let s = c in
-    record { fits = omega (arith, sweep_few s.requires.lines (loop-i-preserved c)) }
+overflow_add-joins c = record { fits = omega (arith, sweep_few c.requires.lines (loop-i-preserved c)) }

@@ -10,34 +10,36 @@ use Rattle.whole.proofs.feed_frame_u8.Goals as goal
 
 pub returns-then-failed : goal.returns-then-failed
 returns-then-failed c =
-    let check = c in
-    let a = check.args in
-    feed_refused nz _ _ a.words.now a.cells.now a.places _ check.frame_check-found.ensures
+    let a = c.args in
+    feed_refused nz _ _ a.words.now a.cells.now a.places _ c.frame_check-found.ensures
     (failed_some _ _ c.failed.ensures c.if-failed.true) _
 
 pub block_lines-most-requires : goal.block_lines-most-requires
 block_lines-most-requires c =
-    let passed : let check = c in let a = check.args in CheckPassed nz a.shape.now a.structure.now a.words.now a.cells.now a.places check.frame_check-found.result = record {
+    let a = c.args in
+    let passed : CheckPassed nz a.shape.now a.structure.now a.words.now a.cells.now a.places c.frame_check-found.result = record {
       arguments = c.frame_check-found.ensures;
       no_cause = passed_none _ _ c.failed.ensures c.if-failed.false;
     } in
-    all_lines (feed_opened (passed))
+    all_lines (feed_opened passed)
 
 pub bounds-words-0 : goal.bounds-words-0
 bounds-words-0 c =
-    let passed : let check = c in let a = check.args in CheckPassed nz a.shape.now a.structure.now a.words.now a.cells.now a.places check.frame_check-found.result = record {
+    let a = c.args in
+    let passed : CheckPassed nz a.shape.now a.structure.now a.words.now a.cells.now a.places c.frame_check-found.result = record {
       arguments = c.frame_check-found.ensures;
       no_cause = passed_none _ _ c.failed.ensures c.if-failed.false;
     } in
-    feed_room (passed)
+    feed_room passed
 
 pub loop-fed-init : goal.loop-fed-init
 loop-fed-init c =
-    let passed : let check = c in let a = check.args in CheckPassed nz a.shape.now a.structure.now a.words.now a.cells.now a.places check.frame_check-found.result = record {
+    let a = c.args in
+    let passed : CheckPassed nz a.shape.now a.structure.now a.words.now a.cells.now a.places c.frame_check-found.result = record {
       arguments = c.frame_check-found.ensures;
       no_cause = passed_none _ _ c.failed.ensures c.if-failed.false;
     } in
-    all_begin nz (feed_opened (passed)) c.zero-figures.ensures
+    all_begin nz (feed_opened passed) c.zero-figures.ensures
 
 pub overflow_mul-a : goal.overflow_mul-a
 overflow_mul-a c = record { fits = omega (arith, all_cells c.loop-fed.invariant _ _ c.lesser-k.ensures) }
@@ -52,39 +54,29 @@ pub slice_bounds-extract_block_u8-end : goal.slice_bounds-extract_block_u8-end
 slice_bounds-extract_block_u8-end c = all_cells c.loop-fed.invariant _ _ c.lesser-k.ensures
 
 pub extract_block_u8-new-requires : goal.extract_block_u8-new-requires
-extract_block_u8-new-requires c = let k = c in all_room k.loop-fed.invariant _ _ k.lesser-k.ensures
+extract_block_u8-new-requires c = all_room c.loop-fed.invariant _ _ c.lesser-k.ensures
 
 pub union_block-joins-requires : goal.union_block-joins-requires
-union_block-joins-requires c =
-    let x = c in
-    let k = x in
-    all_ready k.loop-fed.invariant _ _ k.lesser-k.ensures x.extract_block_u8-new.ensures
+union_block-joins-requires c = all_ready c.loop-fed.invariant _ _ c.lesser-k.ensures c.extract_block_u8-new.ensures
 
 pub plus-figures-requires : goal.plus-figures-requires
 plus-figures-requires c =
-    let u = c in
-    let x = u in
-    let k = x in
-    all_figures k.loop-fed.invariant _ _ k.lesser-k.ensures x.extract_block_u8-new.ensures u.union_block-joins.ensures
+    all_figures c.loop-fed.invariant _ _ c.lesser-k.ensures c.extract_block_u8-new.ensures c.union_block-joins.ensures
 
 pub loop-fed-smaller : goal.loop-fed-smaller
 loop-fed-smaller c =
-    let k = c in
-    let l = k in
-    all_less l.loop-fed.invariant _ _ k.lesser-k.ensures _ l.block_lines-most.ensures k.loop-fed-test.true
+    all_less c.loop-fed.invariant _ _ c.lesser-k.ensures _ c.block_lines-most.ensures c.loop-fed-test.true
 
 pub loop-fed-preserved : goal.loop-fed-preserved
 loop-fed-preserved c =
-    let u = c in
-    let x = u in
-    let k = x in
-    all_then k.loop-fed.invariant _ _ k.lesser-k.ensures x.extract_block_u8-new.ensures u.union_block-joins.ensures
+    all_then c.loop-fed.invariant _ _ c.lesser-k.ensures c.extract_block_u8-new.ensures c.union_block-joins.ensures
     c.plus-figures.ensures
 
 pub returns : goal.returns
 returns c =
-    let passed : let check = c in let a = check.args in CheckPassed nz a.shape.now a.structure.now a.words.now a.cells.now a.places check.frame_check-found.result = record {
+    let a = c.args in
+    let passed : CheckPassed nz a.shape.now a.structure.now a.words.now a.cells.now a.places c.frame_check-found.result = record {
       arguments = c.frame_check-found.ensures;
       no_cause = passed_none _ _ c.failed.ensures c.if-failed.false;
     } in
-    feed_ends (passed) c.loop-fed.invariant c.loop-fed-test.false
+    feed_ends passed c.loop-fed.invariant c.loop-fed-test.false

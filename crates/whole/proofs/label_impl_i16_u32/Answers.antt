@@ -7,6 +7,4 @@ pub number_u32-requires : goal.number_u32-requires
 number_u32-requires c = whole_fed c.feed_frame_i16-frame.ensures
 
 pub returns : goal.returns
-returns c =
-    let n = c in
-    whole_frame n.feed_frame_i16-frame.ensures n.number_u32.ensures
+returns c = whole_frame c.feed_frame_i16-frame.ensures c.number_u32.ensures

@@ -7,6 +7,4 @@ pub number_u16-requires : goal.number_u16-requires
 number_u16-requires c = whole_fed c.feed_frame_u8-frame.ensures
 
 pub returns : goal.returns
-returns c =
-    let n = c in
-    whole_frame n.feed_frame_u8-frame.ensures n.number_u16.ensures
+returns c = whole_frame c.feed_frame_u8-frame.ensures c.number_u16.ensures

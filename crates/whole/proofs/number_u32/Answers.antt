@@ -12,16 +12,10 @@ unfolding largest
 most = refl
 
 pub overflow_sub-n : goal.overflow_sub-n
-overflow_sub-n c = let t = c in number_joins c.in_default.is t.requires
+overflow_sub-n c = number_joins c.in_default.is c.requires
 
 pub write_block_u32-requires : goal.write_block_u32-requires
-write_block_u32-requires c =
-    let i = c in
-    let t = i in
-    number_ready c.in_default.is t.requires u32 (rw (← most) i.if-n-gt-MAXV.false)
+write_block_u32-requires c = number_ready c.in_default.is c.requires u32 (rw (← most) c.if-n-gt-MAXV.false)
 
 pub returns : goal.returns
-returns c =
-    let x = c in
-    let i = x in
-    number_done c.in_default.is u32 (rw (← most) i.if-n-gt-MAXV.false) x.write_block_u32.ensures
+returns c = number_done c.in_default.is u32 (rw (← most) c.if-n-gt-MAXV.false) c.write_block_u32.ensures

@@ -12,19 +12,13 @@ unfolding largest
 most = refl
 
 pub overflow_sub-n : goal.overflow_sub-n
-overflow_sub-n c = let t = c in number_joins c.in_default.is t.requires
+overflow_sub-n c = number_joins c.in_default.is c.requires
 
 pub returns-then-n-gt-MAXV : goal.returns-then-n-gt-MAXV
 returns-then-n-gt-MAXV c = number_ten c.in_default.is u8 (rw (← most) c.if-n-gt-MAXV.true)
 
 pub write_block_u8-requires : goal.write_block_u8-requires
-write_block_u8-requires c =
-    let i = c in
-    let t = i in
-    number_ready c.in_default.is t.requires u8 (rw (← most) i.if-n-gt-MAXV.false)
+write_block_u8-requires c = number_ready c.in_default.is c.requires u8 (rw (← most) c.if-n-gt-MAXV.false)
 
 pub returns : goal.returns
-returns c =
-    let x = c in
-    let i = x in
-    number_done c.in_default.is u8 (rw (← most) i.if-n-gt-MAXV.false) x.write_block_u8.ensures
+returns c = number_done c.in_default.is u8 (rw (← most) c.if-n-gt-MAXV.false) c.write_block_u8.ensures

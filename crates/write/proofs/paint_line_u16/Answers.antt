@@ -7,21 +7,15 @@ use Rattle.write.proofs.paint_line_u16.Goals as goal
 
 pub from_u32-name-requires : goal.from_u32-name-requires
 unfolding largest
-from_u32-name-requires c =
-    let i = c in omega (arith, name_fits u16 i.loop-r.invariant i.loop-r-test.true c.word.ensures)
+from_u32-name-requires c = omega (arith, name_fits u16 c.loop-r.invariant c.loop-r-test.true c.word.ensures)
 
 pub paint_run_u16-requires : goal.paint_run_u16-requires
 paint_run_u16-requires c =
-    let w = c in
-    let i = w in
-    cells_asked u16 i.loop-r.invariant i.loop-r-test.true
-    w.word.ensures w.word-start.ensures w.word-end.ensures
+    cells_asked u16 c.loop-r.invariant c.loop-r-test.true
+    c.word.ensures c.word-start.ensures c.word-end.ensures
 
 pub loop-r-preserved : goal.loop-r-preserved
 loop-r-preserved c =
-    let p = c in
-    let w = p in
-    let i = w in
-    paint_turn u16 i.loop-r.invariant i.loop-r-test.true
-    w.word.ensures w.word-start.ensures w.word-end.ensures
-    p.from_u32-name.ensures p.paint_run_u16.ensures
+    paint_turn u16 c.loop-r.invariant c.loop-r-test.true
+    c.word.ensures c.word-start.ensures c.word-end.ensures
+    c.from_u32-name.ensures c.paint_run_u16.ensures

@@ -12,10 +12,9 @@ name_run-named-requires c = size_asked c.loop-r.invariant c.loop-r-test.true
 
 pub loop-r-preserved : goal.loop-r-preserved
 loop-r-preserved c =
-    let j = c in
-    let T = j.loop-r.invariant in
-    let h = j.loop-r-test.true in
-    size_turn T h (elim j.if-next-places.branch [
+    let T = c.loop-r.invariant in
+    let h = c.loop-r-test.true in
+    size_turn T h (elim c.if-next-places.branch [
       | then-next-places w ↦ rw w.sizes-is (size_put T h w.word.ensures w.if-next-places.true)
       | else-next-places w ↦ rw w.sizes-is (size_skipped T h w.if-next-places.false)
     ]) c.name_run-named.ensures

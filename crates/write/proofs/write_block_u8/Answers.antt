@@ -8,22 +8,14 @@ pub loop-line-init : goal.loop-line-init
 loop-line-init c = lines_begin u8 c.requires
 
 pub name_line-named-requires : goal.name_line-named-requires
-name_line-named-requires c = let i = c in name_asked u8 i.loop-line.invariant i.loop-line-test.true
+name_line-named-requires c = name_asked u8 c.loop-line.invariant c.loop-line-test.true
 
 pub paint_line_u8-requires : goal.paint_line_u8-requires
-paint_line_u8-requires c =
-    let n = c in
-    let i = n in
-    paint_asked u8 i.loop-line.invariant i.loop-line-test.true n.name_line-named.ensures
+paint_line_u8-requires c = paint_asked u8 c.loop-line.invariant c.loop-line-test.true c.name_line-named.ensures
 
 pub loop-line-preserved : goal.loop-line-preserved
 loop-line-preserved c =
-    let n = c in
-    let i = n in
-    lines_turn u8 i.loop-line.invariant i.loop-line-test.true n.name_line-named.ensures c.paint_line_u8.ensures
+    lines_turn u8 c.loop-line.invariant c.loop-line-test.true c.name_line-named.ensures c.paint_line_u8.ensures
 
 pub returns : goal.returns
-returns c =
-    let f = c in
-    let i = f in
-    lines_done u8 i.loop-line.invariant i.loop-line-test.false f.fill_u8.ensures
+returns c = lines_done u8 c.loop-line.invariant c.loop-line-test.false c.fill_u8.ensures

@@ -7,11 +7,8 @@ pub returns-then-failed : goal.returns-then-failed
 returns-then-failed c flags e = feed_unsound _ _ c.sound_check-found.ensures c.failed.ensures c.if-failed.true _ _
 
 pub feed_check-check-requires : goal.feed_check-check-requires
-feed_check-check-requires c =
-    let i = c in
-    feed_asked _ _ i.sound_check-found.ensures i.failed.ensures i.if-failed.false
+feed_check-check-requires c = feed_asked _ _ c.sound_check-found.ensures c.failed.ensures c.if-failed.false
 
 pub returns : goal.returns
 returns c flags e =
-    let i = c in
-    feed_found _ _ i.sound_check-found.ensures i.failed.ensures i.if-failed.false _ flags e c.feed_check-check.ensures
+    feed_found _ _ c.sound_check-found.ensures c.failed.ensures c.if-failed.false _ flags e c.feed_check-check.ensures

@@ -6,8 +6,7 @@ use Rattle.label.proofs.Session.open.Goals as goal
 
 pub returns-then-failed : goal.returns-then-failed
 returns-then-failed c =
-    let i = c in
-    failed_open i.open_check-found.ensures i.failed.ensures i.if-failed.true
+    failed_open c.open_check-found.ensures c.failed.ensures c.if-failed.true
     c.blank_record.ensures c.answer_open.ensures
 
 pub bounds-words-0 : goal.bounds-words-0
@@ -18,6 +17,5 @@ open_record-requires c = passed_short _ _ _ c.open_check-found.ensures c.failed.
 
 pub returns : goal.returns
 returns c =
-    let i = c in
-    passed_open i.open_check-found.ensures i.failed.ensures i.if-failed.false
+    passed_open c.open_check-found.ensures c.failed.ensures c.if-failed.false
     c.open_record.ensures c.answer_open-2.ensures

@@ -8,16 +8,11 @@ pub returns-then-failed : goal.returns-then-failed
 returns-then-failed c kind e = read_unsound _ _ c.sound_check-found.ensures c.failed.ensures c.if-failed.true _ _
 
 pub overflow_sub-self : goal.overflow_sub-self
-overflow_sub-self c =
-    let i = c in
-    joins_fit _ _ (found_sound _ _ i.sound_check-found.ensures i.failed.ensures i.if-failed.false)
+overflow_sub-self c = joins_fit _ _ (found_sound _ _ c.sound_check-found.ensures c.failed.ensures c.if-failed.false)
 
 pub read_check-check-requires : goal.read_check-check-requires
-read_check-check-requires c =
-    let i = c in
-    read_asked _ _ i.sound_check-found.ensures i.failed.ensures i.if-failed.false
+read_check-check-requires c = read_asked _ _ c.sound_check-found.ensures c.failed.ensures c.if-failed.false
 
 pub returns : goal.returns
 returns c kind e =
-    let i = c in
-    read_found _ _ i.sound_check-found.ensures i.failed.ensures i.if-failed.false _ _ (c.read_check-check.ensures kind e)
+    read_found _ _ c.sound_check-found.ensures c.failed.ensures c.if-failed.false _ _ (c.read_check-check.ensures kind e)

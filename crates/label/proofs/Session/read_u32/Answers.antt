@@ -8,23 +8,17 @@ use Rattle.label.proofs.Session.read_u32.Goals as goal
 
 pub returns-then-failed : goal.returns-then-failed
 returns-then-failed c =
-    let i = c in
-    failed_read (i.read_check-found.ensures u32 (unfold largest in refl)) i.failed.ensures i.if-failed.true
+    failed_read (c.read_check-found.ensures u32 (unfold largest in refl)) c.failed.ensures c.if-failed.true
     c.answer_read.ensures
 
 pub write_block_u32-requires : goal.write_block_u32-requires
 write_block_u32-requires c =
-    let i = c in
-    passed_ready u32 _ _ _ (i.read_check-found.ensures u32 (unfold largest in refl)) i.failed.ensures i.if-failed.false
+    passed_ready u32 _ _ _ (c.read_check-found.ensures u32 (unfold largest in refl)) c.failed.ensures c.if-failed.false
 
 pub answer_read-requires-2 : goal.answer_read-requires-2
-answer_read-requires-2 c =
-    let w = c in
-    read_joins u32 _ _ _ (w.read_check-found.ensures u32 (unfold largest in refl))
+answer_read-requires-2 c = read_joins u32 _ _ _ (c.read_check-found.ensures u32 (unfold largest in refl))
 
 pub returns : goal.returns
 returns c =
-    let w = c in
-    let i = w in
-    passed_read (i.read_check-found.ensures u32 (unfold largest in refl)) i.failed.ensures i.if-failed.false
-    w.write_block_u32.ensures c.answer_read-2.ensures
+    passed_read (c.read_check-found.ensures u32 (unfold largest in refl)) c.failed.ensures c.if-failed.false
+    c.write_block_u32.ensures c.answer_read-2.ensures

@@ -8,11 +8,7 @@ pub returns-then-failed : goal.returns-then-failed
 returns-then-failed c = sizes_unsound _ _ c.sound_check-found.ensures c.failed.ensures c.if-failed.true _
 
 pub overflow_sub-self : goal.overflow_sub-self
-overflow_sub-self c =
-    let i = c in
-    joins_fit _ _ (found_sound _ _ i.sound_check-found.ensures i.failed.ensures i.if-failed.false)
+overflow_sub-self c = joins_fit _ _ (found_sound _ _ c.sound_check-found.ensures c.failed.ensures c.if-failed.false)
 
 pub returns : goal.returns
-returns c =
-    let i = c in
-    sizes_found _ _ i.sound_check-found.ensures i.failed.ensures i.if-failed.false _ c.sizes_check-check.ensures
+returns c = sizes_found _ _ c.sound_check-found.ensures c.failed.ensures c.if-failed.false _ c.sizes_check-check.ensures

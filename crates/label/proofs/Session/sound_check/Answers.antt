@@ -6,26 +6,19 @@ use mathlib.Core.Bool.{not}
 use Rattle.label.proofs.Session.sound_check.Goals as goal
 
 pub returns-then-not-shaped : goal.returns-then-not-shaped
-returns-then-not-shaped c =
-    let i = c in
-    shape_unsound _ _ i.shape_sound-shaped.ensures i.if-not-shaped.true c.refused.ensures
+returns-then-not-shaped c = shape_unsound _ _ c.shape_sound-shaped.ensures c.if-not-shaped.true c.refused.ensures
 
 pub words_sound-requires : goal.words_sound-requires
 words_sound-requires c =
-    let i = c in
-    pass_ready i.args.self _
-    i.shape_sound-shaped.ensures i.if-not-shaped.false
+    pass_ready c.args.self _
+    c.shape_sound-shaped.ensures c.if-not-shaped.false
 
 pub returns-then-not-words_sound : goal.returns-then-not-words_sound
 returns-then-not-words_sound c =
-    let w = c in
-    let i = w in
-    words_unsound _ _ i.shape_sound-shaped.ensures i.if-not-shaped.false
-    w.words_sound.ensures (ap not c.if-not-words_sound.true) c.refused-then-not-words_sound.ensures
+    words_unsound _ _ c.shape_sound-shaped.ensures c.if-not-shaped.false
+    c.words_sound.ensures (ap not c.if-not-words_sound.true) c.refused-then-not-words_sound.ensures
 
 pub returns : goal.returns
 returns c =
-    let w = c in
-    let i = w in
-    words_found _ _ i.shape_sound-shaped.ensures i.if-not-shaped.false
-    w.words_sound.ensures (ap not c.if-not-words_sound.false) c.passed.ensures
+    words_found _ _ c.shape_sound-shaped.ensures c.if-not-shaped.false
+    c.words_sound.ensures (ap not c.if-not-words_sound.false) c.passed.ensures

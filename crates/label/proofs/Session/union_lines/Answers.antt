@@ -11,35 +11,31 @@ use Rattle.label.proofs.Session.union_lines.Goals as goal
 pub union_block-joins-requires : goal.union_block-joins-requires
 union_block-joins-requires c =
     let structure-long : length c.args.self.structure ≡ 81 = search rules in
-    let s = c in
-    let p = s.requires in
+    let p = c.requires in
     let X = p.extracted in
-    let long = sound_bytes s.args.self p.words (structure-long) X.given.is_sound in
-    feed_ready s.args.self p.words s.args.k p.cells s.args.g _ s.args.new X long
+    let long = sound_bytes c.args.self p.words structure-long X.given.is_sound in
+    feed_ready c.args.self p.words c.args.k p.cells c.args.g _ c.args.new X long
 
 pub plus-figures-requires : goal.plus-figures-requires
 plus-figures-requires c =
     let structure-long : length c.args.self.structure ≡ 81 = search rules in
-    let s = c in
-    let p = s.requires in
+    let p = c.requires in
     let X = p.extracted in
-    let long = sound_bytes s.args.self p.words (structure-long) X.given.is_sound in
+    let long = sound_bytes c.args.self p.words structure-long X.given.is_sound in
     let u = c.union_block-joins in
-    feed_figures_fit s.args.self p.words s.args.k p.cells s.args.g _ s.args.new X long
+    feed_figures_fit c.args.self p.words c.args.k p.cells c.args.g _ c.args.new X long
     u.new.words u.result u.ensures
 
 pub overflow_add-s : goal.overflow_add-s
 overflow_add-s c =
-    let s = c in
-    let p = s.requires in
-    record { fits = omega (arith, feed_lines_fit s.args.self p.words s.args.k p.cells p.extracted.given) }
+    let p = c.requires in
+    record { fits = omega (arith, feed_lines_fit c.args.self p.words c.args.k p.cells p.extracted.given) }
 
 pub returns : goal.returns
 returns c =
     let structure-long : length c.args.self.structure ≡ 81 = search rules in
-    let s = c in
     let u = c.union_block-joins in
     λ ws cells X.
-    feed_done s.args.self ws s.args.k cells s.args.g _ s.args.new X
-    (sound_bytes s.args.self ws (structure-long) X.given.is_sound) u.new.words u.result u.ensures
+    feed_done c.args.self ws c.args.k cells c.args.g _ c.args.new X
+    (sound_bytes c.args.self ws structure-long X.given.is_sound) u.new.words u.result u.ensures
     c.plus-figures.ensures

@@ -7,6 +7,4 @@ pub returns-then-failed : goal.returns-then-failed
 returns-then-failed c = widen_unsound _ _ c.sound_check-found.ensures c.failed.ensures c.if-failed.true _
 
 pub returns : goal.returns
-returns c =
-    let i = c in
-    widen_found _ _ i.sound_check-found.ensures i.failed.ensures i.if-failed.false _ c.widen_check-check.ensures
+returns c = widen_found _ _ c.sound_check-found.ensures c.failed.ensures c.if-failed.false _ c.widen_check-check.ensures
