@@ -205,19 +205,19 @@ module _ (left : Bool) (w L fed runs : ℕ) (flags : List Bool) where
 
 -- ---- of cells of any kind, whose line i is lent as a part
 
-module _ {A : Type 0} (f : A → Bool) (cells : List A) (left : Bool) (w L fed runs k : ℕ) (ws : List ℕ)
+module _ {A : Type 0} (f : A → Bool) (cells : List A) {left : Bool} {w L fed runs k : ℕ} {ws : List ℕ}
     (R : BlockRoom left w L fed runs k (map f cells) ws) where
-  -- the cells of line i are there
-  pub cells_fit : (i : ℕ) → i < k → i * w + w ≤ length cells
-  cells_fit i h = omega (arith, line_within i k w h, R.whole, length-map cells f)
-
-  module _ (i : ℕ) (h : i < k) (now : List ℕ) (n c : ℕ)
+  module _ {i : ℕ} (h : i < k) {now : List ℕ} {n c : ℕ}
       (B : Block left w L fed runs i (map f cells) ws now (record { runs = n; cells = c })) where
+    -- the place of its first run is within the words
+    pub block_at : L + 1 + stride * (runs + n) ≤ length ws
+    block_at = omega (arith, (line_room left w L fed runs (map f cells) k ws R i h now n c B).room, B.long)
+
     pub block_room : Room left (map f (mid_of (i * w) (i * w + w - i * w) cells)) now (L + 1 + stride * (runs + n))
     block_room = subst (λ (l : List Bool). Room left l now (L + 1 + stride * (runs + n))) (sym (line_flags f w i cells))
         (line_room left w L fed runs (map f cells) k ws R i h now n c B)
 
-    module _ (next : List ℕ) (m : Counts) (X : Extracted left (map f (mid_of (i * w) (i * w + w - i * w) cells)) now next
+    module _ {next : List ℕ} {m : Counts} (X : Extracted left (map f (mid_of (i * w) (i * w + w - i * w) cells)) now next
         (L + 1 + stride * (runs + n)) m) where
       its : Extracted left (line_of w (map f cells) i) now next (L + 1 + stride * (runs + n)) m
       its = subst (λ (l : List Bool). Extracted left l now next (L + 1 + stride * (runs + n)) m) (line_flags f w i cells) X

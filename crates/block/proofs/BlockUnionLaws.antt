@@ -1,6 +1,7 @@
 -- The union of a block: from the words before the reset to those after the last line.
 -- Assumes nothing.
 use mathlib.Core.Path.{◌≡◌, refl, sym, ap, ◌∙◌, subst}
+use mathlib.Core.Logic.{◌≢◌}
 use mathlib.Core.Bool.{Bool, true, false}
 use mathlib.Core.List.{List, []}
 use Prim.Native.Nat.{ℕ, zero, suc, ◌+◌, ◌-◌, ◌*◌, ◌≤◌, ◌<◌}
@@ -22,15 +23,15 @@ use Rattle.forest.proofs.SizeLaws.{sums_total, brought_new, brought_sums}
 use Rattle.forest.proofs.ResetLaws.{reset_grouping, reset_sized}
 use Rattle.geo.specs.declared.Geo.{Geo}
 use Rattle.geo.specs.Geometry.{leading_of}
-use Rattle.link.specs.Lines.{runs_to, LineReady, UnitedIn}
+use Rattle.link.specs.Lines.{runs_to, LineReady, UnitedIn, touches_in}
 use Rattle.link.proofs.PartLaws.{sorted_rise, part_parents, part_runs, to_part, from_part}
 use Rattle.link.proofs.PartLaws.{in_others, in_parents, in_grouped, in_counted, in_sized, in_long}
 use Rattle.link.proofs.TouchByLaws.{leading_size}
 use Rattle.block.specs.Blocks.{brought_in, BlockReady, BlockUnited, ResetReady, ResetIn, touches_from}
 use Rattle.block.proofs.BlockResetLaws.{reset_start, reset_runs, reset_part}
-use Rattle.block.proofs.LineUnionLaws.{touches_stand, Going}
+use Rattle.block.proofs.LineUnionLaws.{touches_stand, Going, going_none, going_few, going_ready, going_then}
 
-module _ (g : Geo) (structure ws : List ℕ) (fed k : ℕ) (R : BlockReady g.leads g.dims g.lines structure ws fed k) where
+module _ (g : Geo) {structure ws : List ℕ} {fed k : ℕ} (R : BlockReady g.leads g.dims g.lines structure ws fed k) where
   abbrev n : ℕ
   n = g.leads
 
@@ -90,7 +91,7 @@ module _ (g : Geo) (structure ws : List ℕ) (fed k : ℕ) (R : BlockReady g.lea
   reset_may = record { within = R.within; room = R.room; upward = upward k (le_refl k) }
 
   -- some
-  module _ (ws' : List ℕ) (X : ResetIn L ws ws' fed k) (some : 0 < k) where
+  module _ {ws' : List ℕ} (X : ResetIn L ws ws' fed k) (some : k ≢ 0) where
     abbrev last : ℕ
     last = fed + k - 1
 
@@ -141,7 +142,7 @@ module _ (g : Geo) (structure ws : List ℕ) (fed k : ℕ) (R : BlockReady g.lea
     reset_small : root_sizes (parent_of L ws') (size_word L ws') b < 4294967296
     reset_small = omega (arith, sums_total (parent_of L ws') (size_word L ws') b low brings reset_sums, R.small)
 
-    pub reset_ready : LineReady g structure ws' (fed + k - 1)
+    reset_ready : LineReady g structure ws' (fed + k - 1)
     reset_ready = record {
       leading = R.leading;
       bytes = R.bytes;
@@ -158,15 +159,33 @@ module _ (g : Geo) (structure ws : List ℕ) (fed k : ℕ) (R : BlockReady g.lea
       };
     }
 
-    pub reset_own : (r : ℕ) → line_start ws' fed ≤ r → r < runs_to ws' (fed + k - 1) → parent_of L ws' r ≡ r
+    reset_own : (r : ℕ) → line_start ws' fed ≤ r → r < runs_to ws' (fed + k - 1) → parent_of L ws' r ≡ r
     reset_own r c d = X.own r (omega (arith, reset_start L ws ws' fed k X fed (omega (arith, R.within)))) (omega (arith, end_start))
 
     same_rep : (r : ℕ) → rep (grouping (parent_of L ws') b) r ≡ rep (grouping (parent_of L ws) a) r
     same_rep r = subst (λ (f : ℕ → ℕ). rep (grouping f b) r ≡ rep (grouping (parent_of L ws) a) r) (part_parents L ws')
         (subst (λ (f : ℕ → ℕ). rep (grouping (parent_in (drop (L + 1) ws')) b) r ≡ rep (grouping f a) r) (part_parents L ws) (stands.1 r))
 
+    -- the loop over the lines
+    module _ (three : length dims ≡ 3) where
+      pub block_begin : Going n dims L structure ws' fed last 0 ws' 0
+      block_begin = going_none g structure ws' fed last reset_ready three reset_own
+
+      module _ {i : ℕ} (h : i < k) {now : List ℕ} {t : ℕ} (G : Going n dims L structure ws' fed last i now t) where
+        pub block_line : LineReady g structure now (fed + i)
+        block_line = going_ready g structure ws' fed last reset_ready three i (omega arith) now t G (omega arith)
+
+        module _ {next : List ℕ} {u : ℕ} (F : UnitedIn L now next (runs_to now (fed + i)) (touches_in g structure now (fed + i)) u) where
+          pub block_turn : Going n dims L structure ws' fed last (i + 1) next (t + u)
+          block_turn = going_then g structure ws' fed last reset_ready three i (omega arith) now t G (omega arith) next u F
+
+          -- there are no more joins than words
+          pub block_joins : t + u ≤ length ws
+          block_joins =
+              omega (arith, going_few g structure ws' fed last reset_ready three (i + 1) (omega arith) next (t + u) block_turn, end_start, R.room)
+
     -- all of them are united
-    module _ (three : length dims ≡ 3) (i : ℕ) (h : i ≤ k) (l : k ≤ i) (end : List ℕ) (t : ℕ)
+    module _ (three : length dims ≡ 3) {i : ℕ} (h : i ≤ k) (l : k ≤ i) {end : List ℕ} {t : ℕ}
         (G : Going n dims L structure ws' fed (fed + k - 1) i end t) where
       es_same : touches_from n dims L structure ws' fed i ≡ touches_from n dims L structure ws fed k
       es_same =

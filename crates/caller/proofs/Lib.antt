@@ -1,4 +1,5 @@
-pub mod FillLaws
+pub mod DecodeLaws
+pub mod HeldLaws
 pub mod StepLaws
 pub mod ListLaws
 pub mod MadeLaws

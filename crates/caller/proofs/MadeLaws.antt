@@ -4,6 +4,9 @@ use mathlib.Core.Path.{◌≡◌, refl, sym, ap, ◌∙◌, subst}
 use mathlib.Core.List.{List, []}
 use Prim.Native.Nat.{ℕ, suc, ◌-◌, ◌<◌}
 use native.Mathlib.Omega.{arith}
+use Rattle.std.specs.Prelude.{Result, Ok, Err}
+use Rattle.std.specs.Result.{IsErrAnd}
+use Rattle.causes.specs.declared.Cause.{Cause}
 use lib.ListN.{length}
 use Rattle.frame.specs.Causes.{open_cause}
 use Rattle.frame.specs.Plain.{opened, plain}
@@ -12,13 +15,17 @@ use Rattle.label.specs.declared.Session.{Session}
 use Rattle.label.specs.Opening.{open_record, open_words, blank, OpenPromise}
 use Rattle.calls.specs.Trace.{Trace}
 use Rattle.calls.proofs.Demand3.{demand3}
-use Rattle.caller.specs.declared.Going.{Going}
 use Rattle.caller.specs.CallList.{Entry, calls_of, woven}
 use Rattle.frame.specs.Overlay.{Holds}
 use Rattle.caller.specs.Rooms.{Rooms}
-use Rattle.caller.specs.Making.{standing, Performs}
+use Rattle.caller.specs.Making.{Standing, Performs}
 use Rattle.caller.specs.Made.{due, MadePromise}
 use Rattle.frame.proofs.OverlayLaws.{overlay_none}
+
+-- an opening's cause, handed on
+pub made_failed : (r : Result ℕ Cause) {e : Cause} → IsErrAnd r (λ x. x ≡ e) → r ≡ Err e
+made_failed (Ok places) h = absurd h
+made_failed (Err x) h = ap Err h
 
 module _ {shape structure ws : List ℕ} {number : ℕ} {s : Session} {ws₁ : List ℕ} (O : OpenPromise shape structure ws number s ws₁)
     (entries : List Entry) (rooms : Rooms) (answers : List ℕ) where
@@ -33,15 +40,15 @@ module _ {shape structure ws : List ℕ} {number : ℕ} {s : Session} {ws₁ : L
   unfolding due
   due_none d some = kept_old [] (woven entries (plain shape (opened structure) (calls_of entries))) cause d some
 
-  pub made_accepted : {ws' : List ℕ} {rooms' : Rooms} {answers' : List ℕ} (g : Going) → number ≡ 0
-      → Performs entries (standing (record { session = s; at = 0 }) ws₁ rooms answers) (standing g ws' rooms' answers')
-      → MadePromise shape structure ws entries rooms answers number g.at ws' rooms' answers'
-  made_accepted {ws'} {rooms'} {answers'} g z R =
+  pub made_accepted : {last : Standing} → number ≡ 0
+      → Performs entries (record { session = s; words = ws₁; rooms = rooms; answers = answers; place = 0 }) last
+      → MadePromise shape structure ws entries rooms answers number last.place last.words last.rooms last.answers
+  made_accepted {last} z R =
       let none : cause ≡ 0 = sym O.said ∙ z in
-      let D = demand3 shape structure ws number s ws₁ O z (calls_of entries) R.answered g.session ws' R.trace in
+      let D = demand3 shape structure ws number s ws₁ O z (calls_of entries) R.answered last.session last.words R.trace in
       let w : due shape structure ws entries rooms answers ≡ woven entries R.answered = due_all none
       ∙ ap (woven entries) (sym D.same) in
-      let H : Holds (woven entries R.answered) answers answers' g.at = R.adds.behind [] answers
+      let H : Holds (woven entries R.answered) answers last.answers last.place = R.adds.behind [] answers
       (record { now_is = sym (overlay_none answers); place_is = omega arith }) in
       record {
         opening = O.said;
@@ -51,10 +58,10 @@ module _ {shape structure ws : List ℕ} {number : ℕ} {s : Session} {ws₁ : L
         refused_rooms = λ h. absurd (omega arith);
         accepted = λ e. record {
           answered = R.answered;
-          session = g.session;
-          trace = subst (λ (x : Session). Trace x (open_words ws) (calls_of entries) R.answered g.session ws')
+          session = last.session;
+          trace = subst (λ (x : Session). Trace x (open_words ws) (calls_of entries) R.answered last.session last.words)
               (O.session ∙ kept_new blank (open_record shape structure) cause none)
-              (subst (λ (vs : List ℕ). Trace s vs (calls_of entries) R.answered g.session ws')
+              (subst (λ (vs : List ℕ). Trace s vs (calls_of entries) R.answered last.session last.words)
               (O.words ∙ kept_new ws (open_words ws) cause none) R.trace);
           outputs = R.rooms;
         };
@@ -72,3 +79,10 @@ module _ {shape structure ws : List ℕ} {number : ℕ} {s : Session} {ws₁ : L
         refused_rooms = λ k. refl;
         accepted = λ e. absurd (omega arith);
       }
+
+-- the promise, of slices that hold the same and the same place
+module _ {shape structure ws : List ℕ} {entries : List Entry} {rooms : Rooms} {answers : List ℕ} {number places places' : ℕ} where
+  pub made_same : {ws' ws'' : List ℕ} {rooms' : Rooms} {answers' answers'' : List ℕ}
+      → MadePromise shape structure ws entries rooms answers number places ws' rooms' answers' → places' ≡ places → ws'' ≡ ws'
+      → answers'' ≡ answers' → MadePromise shape structure ws entries rooms answers number places' ws'' rooms' answers''
+  made_same M o p q = rw (o, p, q) M

@@ -1,7 +1,9 @@
 -- What `make_calls` promises: the plain session's answers, and calls that led there one after another.
 -- Assumes nothing.
-use Rattle.std.specs.Prelude.{◌≡◌, List, [], ℕ, min, ◌<◌, length}
+use Rattle.std.specs.Prelude.{◌≡◌, Result, Ok, Err, List, [], ℕ, min, ◌<◌, length}
 use Rattle.frame.specs.Causes.{open_cause}
+use Rattle.causes.specs.declared.Cause.{Cause}
+use Rattle.causes.specs.Cases.{cause_number}
 use Rattle.frame.specs.Plain.{kept, Answered, opened, plain}
 use Rattle.label.specs.declared.Session.{Session}
 use Rattle.label.specs.Opening.{open_record, open_words}
@@ -35,3 +37,12 @@ module _ (shape structure ws : List ℕ) (entries : List Entry) (rooms : Rooms) 
     pub refused_words : 0 < cause → ws' ≡ ws
     pub refused_rooms : 0 < cause → rooms' ≡ rooms
     pub accepted : cause ≡ 0 → CallsMade ws' rooms'
+
+-- both of what the code answers: how many were written, or why the opening is refused
+abbrev pub made_number : Result ℕ Cause → ℕ
+made_number (Ok places) = 0
+made_number (Err c) = cause_number c
+
+abbrev pub made_places : Result ℕ Cause → ℕ
+made_places (Ok places) = places
+made_places (Err c) = 0

@@ -1,15 +1,11 @@
--- Numbers of causes and of checks.
+-- Numbers of causes, and of what checks find.
 -- Assumes nothing.
-use mathlib.Core.Path.{◌≡◌, sym, ap, ◌∙◌}
-use mathlib.Core.Bool.{Bool, true, false}
-use Prim.Native.Nat.{ℕ, ◌<◌}
+use mathlib.Core.Path.{◌≡◌, ap}
+use Prim.Native.Nat.{◌<◌}
 use native.Mathlib.Omega.{arith}
-use borrow.Author.Tests.{le-ltb, lt-ltb, ltb-true, ltb-false}
-use lib.Dec.{ltb}
+use Rattle.std.proofs.Common.{Result, Ok, Err}
 use Rattle.causes.specs.declared.Cause.{Cause}
 use Rattle.causes.specs.declared.Cause.TheVariants as C
-use Rattle.causes.specs.declared.Check.{Check}
-use Rattle.causes.specs.declared.Check.TheVariants as K
 use Rattle.causes.specs.Cases.{cause_number, check_number}
 
 -- no cause has the number 0
@@ -28,14 +24,11 @@ positive C.Lopsided = omega arith
 positive C.NotWider = omega arith
 
 -- so a check failed where its number is above 0
-pub check_passes : (k : Check) → k ≡ K.Passed → false ≡ ltb 0 (check_number k)
-check_passes k is = sym (le-ltb 0 (check_number k) (omega (arith, ap check_number is)))
+pub failed_some : {A : Type 0} (r : Result A Cause) (c : Cause) → r ≡ Err c → 0 < check_number r
+failed_some r c is = omega (arith, ap check_number is, positive c)
 
-pub check_fails : (c : Cause) (k : Check) → k ≡ K.Failed c → true ≡ ltb 0 (check_number k)
-check_fails c k is = sym (lt-ltb 0 (check_number k) (omega (arith, ap check_number is, positive c)))
+pub passed_none : {A : Type 0} (r : Result A Cause) (a : A) → r ≡ Ok a → check_number r ≡ 0
+passed_none r a is = ap check_number is
 
-pub failed_some : (n : ℕ) (t : Bool) → t ≡ ltb 0 n → t ≡ true → 0 < n
-failed_some n t is e = ltb-true 0 n (sym is ∙ e)
-
-pub passed_none : (n : ℕ) (t : Bool) → t ≡ ltb 0 n → t ≡ false → n ≡ 0
-passed_none n t is e = omega (arith, ltb-false 0 n (sym is ∙ e))
+pub same_ok : {A : Type 0} (a b : A) → ◌≡◌ {A = Result A Cause} (Ok a) (Ok b) → a ≡ b
+same_ok a b is = cc

@@ -9,6 +9,7 @@ use native.Mathlib.Omega.{arith}
 use borrow.Author.Tests.{le-ltb, lt-ltb, eq-eqb, ne_eqb}
 use lib.Dec.{eqb, ltb}
 use lib.ListN.{length}
+use Rattle.std.proofs.Common.{Result, Ok}
 use Rattle.frame.specs.Lists.{entries, padded}
 use Rattle.frame.specs.Shape.{leading}
 use Rattle.frame.specs.Memory.{words_needed}
@@ -18,14 +19,18 @@ use Rattle.geo.specs.declared.Geo.{Geo}
 use Rattle.geo.specs.Geometry.{ShapeReady, Measured, GeoOf, WithinLimits, large_geo, words_of}
 use Rattle.geo.proofs.DimsLaws.{bad_rank_is}
 use Rattle.geo.proofs.GeoLaws.{measured_zero, measured_large, measured_geo, not_large, geo_words}
-use Rattle.causes.specs.declared.Checked.{Checked}
+use Rattle.causes.specs.declared.Cause.{Cause}
 use Rattle.causes.specs.Cases.{check_number}
 use Rattle.causes.specs.Checks.{Found}
+use Rattle.causes.proofs.CaseLaws.{passed_none, same_ok}
 
 -- where there is a cause no geometry is promised
-pub found_cause : (rank : ℕ) (shape structure : List ℕ) (n cause : ℕ) (r : Checked) → 0 < n → n ≡ cause → check_number r.check ≡ n
+pub found_cause : (rank : ℕ) (shape structure : List ℕ) (n cause : ℕ) (r : Result Geo Cause) → 0 < n → n ≡ cause → check_number r ≡ n
     → Found rank shape structure cause r
-found_cause rank shape structure n cause r some e is = record { number = is ∙ e; geometry = λ none. absurd (omega arith) }
+found_cause rank shape structure n cause r some e is = record {
+  number = is ∙ e;
+  geometry = λ g passed. absurd (omega (arith, passed_none r g passed));
+}
 
 -- the test of a rank is that of a shape of that rank
 pub rank_test : (shape : List ℕ) (a b : Bool) → a ≡ (eqb (length shape) 0 || ltb 4 (length shape)) → a ≡ b → bad_rank shape ≡ b
@@ -117,9 +122,8 @@ module _ (shape structure : List ℕ) (memory : ℕ) where
               ) refl
 
               -- then the check passes
-              pub open_found : needed ≤ memory → (r : Checked) → check_number r.check ≡ 0 → r.geo ≡ g
-                  → Found (length shape) (padded 4 shape) structure (open_cause shape structure memory) r
-              open_found h r said same = record {
-                number = said ∙ open_gets_none h;
-                geometry = λ none. subst (GeoOf (length shape) (padded 4 shape) structure) (sym same) open_geo;
+              pub open_found : needed ≤ memory → Found (length shape) (padded 4 shape) structure (open_cause shape structure memory) (Ok g)
+              open_found h = record {
+                number = open_gets_none h;
+                geometry = λ k passed. subst (GeoOf (length shape) (padded 4 shape) structure) (same_ok g k passed) open_geo;
               }

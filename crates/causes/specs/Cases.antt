@@ -1,10 +1,8 @@
 -- The documents' number for each cause, and for what a check finds.
 -- Assumes nothing.
-use Rattle.std.specs.Prelude.{ℕ}
+use Rattle.std.specs.Prelude.{ℕ, Result, Ok, Err}
 use Rattle.causes.specs.declared.Cause.{Cause}
 use Rattle.causes.specs.declared.Cause.TheVariants as C
-use Rattle.causes.specs.declared.Check.{Check}
-use Rattle.causes.specs.declared.Check.TheVariants as K
 
 abbrev pub cause_number : Cause → ℕ
 cause_number C.Rank = 1
@@ -21,6 +19,6 @@ cause_number C.Lopsided = 12
 cause_number C.NotWider = 19
 
 -- 0 where a check passes
-abbrev pub check_number : Check → ℕ
-check_number K.Passed = 0
-check_number (K.Failed c) = cause_number c
+abbrev pub check_number : {A : Type 0} → Result A Cause → ℕ
+check_number (Ok _) = 0
+check_number (Err c) = cause_number c

@@ -30,6 +30,15 @@ module _ {A B : Type 0} where
   through (parsed a s) k e = record { first = a; after = s; reads = refl; goes_on = e }
   through bad k e = absurd (let z : ◌≡◌ {A = ℕ} 0 1 = cc in omega arith)
 
+module _ {A B : Type 0} {r : Parsed A} (k : A → List ℕ → Parsed B) where
+  pub then_parsed : {a : A} {t : List ℕ} → r ≡ parsed a t → and_then r k ≡ k a t
+  unfolding and_then
+  then_parsed e = ap (λ (x : Parsed A). and_then x k) e
+
+  pub then_bad : r ≡ bad → and_then r k ≡ bad
+  unfolding and_then
+  then_bad e = ap (λ (x : Parsed A). and_then x k) e
+
 pub same_read : {A : Type 0} {a b : A} {s t : List ℕ} → parsed a s ≡ parsed b t → a ≡ b
 same_read e = cc
 

@@ -1,11 +1,10 @@
 pub mod DecimalLaws
 pub mod InputLaws
 pub mod StructureLaws
-pub mod PlaceLaws
+pub mod ReadLaws
 pub mod FrameLaws
 pub mod LabelLaws
 pub mod PrintLaws
-pub mod ReportLaws
 pub mod LengthLaws
 pub mod ChainLaws
 pub mod Answers

@@ -1,26 +1,29 @@
--- What the functions that read and print promise each other. What is printed is added to a slice: frame's Overlay.
+-- What the functions that read and label promise each other.
 -- Assumes nothing.
-use Rattle.std.specs.Prelude.{◌≡◌, Bool, true, false, cond, List, [], ◌∷◌, map, ℕ, ◌*◌, ◌≤◌, length, take, drop}
+use Rattle.std.specs.Prelude.{◌≡◌, Bool, false, cond, List, [], ◌∷◌, map, ℕ, ◌*◌, length, take, Option, MatchOption}
+use Rattle.std.specs.Borrow.{Bor}
 use Rattle.frame.specs.ChainRule.{group_count, labels}
 use Rattle.frame.specs.Causes.{lopsided}
-use Rattle.frame.specs.Plain.{Answer, fed, counted, refused, figures}
+use Rattle.frame.specs.Kinds.{nz}
+use Rattle.frame.specs.Plain.{Answer, counted, refused, figures}
+use Rattle.causes.specs.Cases.{cause_number}
 use Rattle.label.specs.WholeFrame.{all_fed}
-use Rattle.clumps_text.specs.declared.Place.{Place}
-use Rattle.clumps_text.specs.declared.Place.TheVariants.{At, Nowhere}
-use Rattle.clumps_text.specs.declared.ParsedShape.{ParsedShape}
+use Rattle.clumps_text.specs.declared.shapes.Shape.{Shape}
+use Rattle.clumps_text.specs.declared.Frame.{Frame}
+use Rattle.clumps_text.specs.declared.Refusal as Declared
+use Rattle.clumps_text.specs.declared.Refusal.TheVariants as R
 use Rattle.clumps_text.specs.Input.{TextFrame, Parsed, parsed, bad, and_then, parse_flags, flags_given, last_lines, parse}
-use Rattle.clumps_text.specs.Output.{as_byte, structure_bytes, frame_structure, refusal_text, labelled_text}
+use Rattle.clumps_text.specs.Output.{as_byte, structure_bytes, frame_structure, refusal_text, output_to, printed}
 
 -- ---- reading
 
--- what is read from a place of the text on; from nowhere nothing is
-abbrev pub parse_from : {A : Type 0} → List ℕ → Place → (List ℕ → Parsed A) → Parsed A
-parse_from text (At at) k = k (drop at text)
-parse_from text Nowhere k = bad
+-- a was read, and the text after it is answered; or nothing was, and nothing is
+abbrev pub Leaves : {A : Type 0} → Parsed A → A → Option (Bor (List ℕ)) → Type 0
+Leaves r a answer = MatchOption answer (r ≡ bad) (λ rest. r ≡ parsed a rest.now)
 
--- k reads a value from one place on, and the text after it begins at the next; from nowhere, or where k reads nothing, next is nowhere
-abbrev pub Parses : {A : Type 0} → List ℕ → Place → (List ℕ → Parsed A) → A → Place → Type 0
-Parses text place k a next = parse_from text next (parsed a) ≡ parse_from text place k
+-- what was read is answered too
+abbrev pub Gives : {A : Type 0} → Parsed A → Option (A × Bor (List ℕ)) → Type 0
+Gives r answer = MatchOption answer (r ≡ bad) (λ p. r ≡ parsed p.0 p.1.now)
 
 -- flags as bytes 0 and 1
 unfoldable pub parse_as_bytes : ℕ → List ℕ → Parsed (List ℕ)
@@ -30,55 +33,38 @@ parse_as_bytes n t = and_then (parse_flags n t) λ fs s. parsed (map as_byte fs)
 unfoldable pub parse_structure : List ℕ → Parsed (List ℕ)
 parse_structure t = and_then (parse_flags (flags_given t) t) λ fs s. parsed (structure_bytes fs) s
 
--- a frame as the labelling takes it: structure and cells as bytes
-pub record ByteFrame : Type 0 where
-  pub width : ℕ
-  pub lines : ℕ
-  pub structure : List ℕ
-  pub cells : List ℕ
+-- the first two lines are read, and the last two follow
+abbrev pub ShapeParsed : List ℕ → Option (Shape × Bor (List ℕ)) → Type 0
+ShapeParsed text answer = MatchOption answer (parse text ≡ bad) (λ p. parse text ≡ last_lines p.0.width p.0.lines p.1.now)
 
-unfoldable pub frame_bytes : TextFrame → ByteFrame
-frame_bytes f = record { width = f.width; lines = f.lines; structure = frame_structure f; cells = map as_byte f.cells }
+-- a frame's cells, the first of the array
+abbrev pub first_cells : Frame → List ℕ
+first_cells f = take (f.shape.lines * f.shape.width) f.cells
 
-unfoldable pub parsed_bytes : Parsed TextFrame → Parsed ByteFrame
-parsed_bytes r = and_then r λ f s. parsed (frame_bytes f) s
+-- the text is that of a frame, which was read with its structure and cells as bytes
+pub record FrameRead (text : List ℕ) (f : Frame) : Type 0 where
+  pub frame : TextFrame
+  pub is_read : parse text ≡ parsed frame []
+  pub width : frame.width ≡ f.shape.width
+  pub lines : frame.lines ≡ f.shape.lines
+  pub structure_is : frame_structure frame ≡ f.structure
+  pub cells_are : map as_byte frame.cells ≡ first_cells f
 
--- the first two lines are read, with the numbers that they say
-pub record ShapeParsed (text : List ℕ) (z : ParsedShape) : Type 0 where
-  pub most_width : z.width ≤ 48
-  pub most_lines : z.lines ≤ 48
-  pub reads : parse_from text z.next (last_lines z.width z.lines) ≡ parse text
-
--- all four are, with the structure's bytes and the first cells
-abbrev pub bytes_of : ParsedShape → List ℕ → List ℕ → ByteFrame
-bytes_of z structure cells =
-    record { width = z.width; lines = z.lines; structure = structure; cells = take (z.lines * z.width) cells }
-
-pub record FrameParsed (text structure cells : List ℕ) (z : ParsedShape) : Type 0 where
-  pub most_width : z.width ≤ 48
-  pub most_lines : z.lines ≤ 48
-  pub reads : parse_from text z.next (parsed (bytes_of z structure cells)) ≡ parsed_bytes (parse text)
-
--- no text is left from a place on
-unfoldable pub is_empty : List ℕ → Bool
-is_empty [] = true
-is_empty (b ∷ t) = false
-
-abbrev pub ends_at : List ℕ → Place → Bool
-ends_at text (At at) = is_empty (drop at text)
-ends_at text Nowhere = false
+-- or it is of no frame, or has bytes past its fourth line
+abbrev pub FrameParsed : List ℕ → Option Frame → Type 0
+FrameParsed text answer = MatchOption answer (printed (parse text) ≡ refusal_text 11) (FrameRead text)
 
 -- ---- labelling
 
--- a frame of a size that a text can say, nine structure bytes, and n bytes and n numbers for its cells
-pub record LabelReady (width lines : ℕ) (structure cells numbers : List ℕ) (n : ℕ) : Type 0 where
-  pub some_width : 1 ≤ width
-  pub most_width : width ≤ 48
-  pub some_lines : 1 ≤ lines
-  pub most_lines : lines ≤ 48
-  pub nine : length structure ≡ 9
-  pub bytes : length cells ≡ n
-  pub places : length numbers ≡ n
+abbrev pub shape_of : Frame → List ℕ
+shape_of f = f.shape.lines ∷ f.shape.width ∷ []
+
+abbrev pub cells_of : Frame → List Bool
+cells_of f = map nz (first_cells f)
+
+-- what is printed for a frame
+abbrev pub output_for : Frame → List ℕ
+output_for f = output_to (shape_of f) f.structure (cells_of f)
 
 -- refused by 12 where the structure is lopsided; else accepted, with the figures and labels of crate frame's definitions
 pub record Labels (shape structure : List ℕ) (cells : List Bool) (a : Answer) (numbers : List ℕ) : Type 0 where
@@ -86,8 +72,9 @@ pub record Labels (shape structure : List ℕ) (cells : List Bool) (a : Answer) 
       (counted (group_count shape structure cells) (figures shape (all_fed shape structure cells)))
   pub labelled : lopsided (length shape) structure ≡ false → numbers ≡ labels shape structure cells
 
--- what an answer prints, with the numbers of an accepted one. A feed's is printed nowhere
-abbrev pub answer_text : Answer → List ℕ → List ℕ
-answer_text (fed l f) numbers = []
-answer_text (counted n f) numbers = labelled_text n f numbers
-answer_text (refused c) numbers = refusal_text c
+-- ---- refusals
+
+-- the program's own is 11; the others are the causes' numbers
+abbrev pub refusal_number : Declared.Refusal → ℕ
+refusal_number R.Form = 11
+refusal_number (R.Frame c) = cause_number c

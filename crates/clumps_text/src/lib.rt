@@ -5,365 +5,256 @@
 // can come.
 #![tactic(auto)]
 
-ghost use Rattle.std.specs.Prelude.{◌≡◌, [], ◌∷◌, ◌++◌, map, ◌-◌, ◌*◌, ◌≤◌, min, length, get_or, take, drop};
-ghost use Rattle.frame.specs.Kinds.{nz};
+mod shapes;
+
+ghost use Rattle.std.specs.Prelude.{◌≡◌, [], ◌∷◌, ◌++◌, map, ◌-◌, ◌*◌, ◌≤◌, min, length, get_or, take};
 ghost use Rattle.label.specs.Cases.{read_answer};
-ghost use Rattle.frame.specs.Overlay.{overlay, Holds, Adds};
+ghost use Rattle.frame.specs.Overlay.{overlay};
+ghost use Rattle.overlay.specs.Writers.{Writes};
 ghost use Rattle.clumps_text.specs.Text.{line, decimal, decimals};
-ghost use Rattle.clumps_text.specs.Input.{parse_exactly, digits_value, parse_number, flags_given};
-ghost use Rattle.clumps_text.specs.Output.{structure_bytes, refusal_text, labelled_text, output_to, clumps_of};
-ghost use Rattle.clumps_text.specs.Steps.{Parses, parse_as_bytes, parse_structure, ShapeParsed, FrameParsed, ends_at};
-ghost use Rattle.clumps_text.specs.Steps.{LabelReady, Labels, answer_text};
+ghost use Rattle.clumps_text.specs.Input.{parse_exactly, digits_value, parse_number};
+ghost use Rattle.clumps_text.specs.Output.{refusal_text, labelled_text, output_to, clumps_of};
+ghost use Rattle.clumps_text.specs.Steps.{Leaves, Gives, parse_as_bytes, parse_structure, ShapeParsed, FrameParsed};
+ghost use Rattle.clumps_text.specs.Steps.{shape_of, cells_of, output_for, Labels, refusal_number};
 
-// ---- reading
+use overlay::Writer;
+use shapes::Shape;
 
-// A place of the text, or nowhere once the text is seen not to be of the form.
-#[derive(Clone, Copy)]
-enum Place {
-    At(usize),
-    Nowhere,
-}
+// ---- reading: each function takes the text from its part on, and answers the text after that part; nothing where the text is not of
+// the form
 
-// A number that was read, and the place after its line.
-#[derive(Clone, Copy)]
-struct ParsedNumber {
-    value: usize,
-    next: Place,
+// Bytes that must stand here.
+fn parse_exactly<'a>(text: &'a [u8], name: &[u8]) -> Option<&'a [u8]>
+    ensures { Leaves (parse_exactly name.now text.now) tt result }
+{
+    text.strip_prefix(name)
 }
 
 // The byte at a place; 0 past the end.
 fn byte_at(text: &[u8], at: usize) -> u8
     ensures { result ≡ get_or text.now at 0 }
 {
-    if at < text.len() {
-        return text[at];
-    }
-    0
-}
-
-// How many bytes stand from a place on.
-fn bytes_left(text: &[u8], at: usize) -> usize
-    ensures { result ≡ length text.now - at }
-{
-    if at < text.len() {
-        return text.len() - at;
-    }
-    0
-}
-
-// Bytes that must stand here.
-fn parse_exactly(text: &[u8], place: Place, name: &[u8]) -> Place
-    ensures { Parses text.now place (parse_exactly name.now) tt result }
-{
-    let Place::At(at) = place else {
-        return Place::Nowhere;
-    };
-    if bytes_left(text, at) < name.len() {
-        return Place::Nowhere;
-    }
-    let mut i: usize = 0;
-    while i < name.len() {
-        if text[at + i] != name[i] {
-            return Place::Nowhere;
-        }
-        i += 1;
-    }
-    Place::At(at + i)
+    text.get(at).copied().unwrap_or(0)
 }
 
 // The value of a digit; 0 for a byte below them.
-fn digit_value(b: u8) -> usize
-    ensures { result ≡ b - 48 }
+fn digit_value(byte: u8) -> usize
+    ensures { result ≡ byte - 48 }
 {
-    if b < 48 {
-        return 0;
-    }
-    (b - 48) as usize
+    usize::from(byte.saturating_sub(b'0'))
 }
 
 // The value of one digit, where byte 10 follows it, else of two.
-fn digits_value_at(text: &[u8], at: usize) -> usize
-    ensures { result ≡ digits_value (drop at text.now) }
+fn digits_value(text: &[u8]) -> usize
+    ensures { result ≡ digits_value text.now }
 {
-    if text.len() <= at {
-        return 0;
+    let first = digit_value(byte_at(text, 0));
+    let second = byte_at(text, 1);
+    if second == b'\n' {
+        return first;
     }
-    let a = digit_value(byte_at(text, at));
-    let b = byte_at(text, at + 1);
-    if b == 10 {
-        return a;
-    }
-    10 * a + digit_value(b)
-}
-
-// A number from 1 to 48 without leading zeros, and the byte 10 that ends its line.
-fn parse_number(text: &[u8], place: Place) -> ParsedNumber
-    ensures { (result.value ≤ 48) × Parses text.now place parse_number result.value result.next }
-{
-    let Place::At(at) = place else {
-        return ParsedNumber {
-            value: 0,
-            next: Place::Nowhere,
-        };
-    };
-    let v = digits_value_at(text, at);
-    if (v < 1) | (v > 48) {
-        return ParsedNumber {
-            value: 0,
-            next: Place::Nowhere,
-        };
-    }
-    ParsedNumber {
-        value: v,
-        next: parse_decimal(text, place, v),
-    }
+    10 * first + digit_value(second)
 }
 
 // A number's decimal, and the byte 10 that ends its line.
-fn parse_decimal(text: &[u8], place: Place, v: usize) -> Place
-    requires { v ≤ 48 }
-    ensures { Parses text.now place (parse_exactly (decimal v ++ (10 ∷ []))) tt result }
+fn parse_decimal(text: &[u8], value: usize) -> Option<&[u8]>
+    requires { value ≤ 48 }
+    ensures { Leaves (parse_exactly (decimal value ++ (10 ∷ [])) text.now) tt result }
 {
-    if v < 10 {
-        let one = [48 + v as u8, 10];
-        return parse_exactly(text, place, &one);
+    if value < 10 {
+        return parse_exactly(text, &[b'0' + value as u8, b'\n']);
     }
-    let two = [48 + (v / 10) as u8, 48 + (v % 10) as u8, 10];
-    parse_exactly(text, place, &two)
+    let tens = (value / 10) as u8;
+    let ones = (value % 10) as u8;
+    parse_exactly(text, &[b'0' + tens, b'0' + ones, b'\n'])
 }
 
-// `n` characters 0 or 1, into the first bytes of `out`.
-fn parse_flags(text: &[u8], place: Place, n: usize, out: &mut [u8]) -> Place
-    requires { n ≤ length out.old }
-    ensures { (drop n out.new ≡ drop n out.old)
-        × Parses text.now place (parse_as_bytes n) (take n out.new) result }
+// A number from 1 to 48 without leading zeros, and the byte 10 that ends its line. Not by std's `parse`, which takes a plus and leading
+// zeros too: the value is read, and its decimal must then stand here.
+fn parse_number(text: &[u8]) -> Option<(usize, &[u8])>
+    ensures { Gives (parse_number text.now) result }
 {
-    let Place::At(at) = place else {
-        return Place::Nowhere;
-    };
-    if bytes_left(text, at) < n {
-        return Place::Nowhere;
+    let value = digits_value(text);
+    if value < 1 || value > 48 {
+        return None;
     }
-    let mut i: usize = 0;
-    while i < n {
-        let b = text[at + i];
-        if (b != 48) & (b != 49) {
-            return Place::Nowhere;
-        }
-        out[i] = b - 48;
-        i += 1;
-    }
-    Place::At(at + i)
-}
-
-// Width and lines that were read, and the place after their lines; then the place after all four.
-#[derive(Clone, Copy)]
-struct ParsedShape {
-    width: usize,
-    lines: usize,
-    next: Place,
+    let rest = parse_decimal(text, value)?;
+    Some((value, rest))
 }
 
 // The first two lines.
-fn parse_shape(text: &[u8]) -> ParsedShape
+fn parse_shape(text: &[u8]) -> Option<(Shape, &[u8])>
     ensures { ShapeParsed text.now result }
 {
-    let w = parse_number(text, parse_exactly(text, Place::At(0), b"width="));
-    let first = w.next;
-    let l = parse_number(text, parse_exactly(text, first, b"lines="));
-    let next = l.next;
-    ParsedShape {
-        width: w.value,
-        lines: l.value,
-        next,
+    let (width, rest) = parse_number(parse_exactly(text, b"width=")?)?;
+    let (lines, rest) = parse_number(parse_exactly(rest, b"lines=")?)?;
+    Some((Shape { width, lines }, rest))
+}
+
+// As many characters 0 or 1 as `flags` has places.
+fn parse_flags<'a>(text: &'a [u8], flags: &mut [u8]) -> Option<&'a [u8]>
+    ensures { Leaves (parse_as_bytes (length flags.old) text.now) flags.new result }
+{
+    let (given, rest) = text.split_at_checked(flags.len())?;
+    for (i, &byte) in given.iter().enumerate() {
+        if byte != b'0' && byte != b'1' {
+            return None;
+        }
+        flags[i] = byte - b'0';
     }
+    Some(rest)
 }
 
-// How many flags the structure's line has: none where it ends at once.
-fn flags_given_at(text: &[u8], at: usize) -> usize
-    ensures { result ≡ flags_given (drop at text.now) }
+// The structure's flags: nine ones where its line ends at once.
+fn parse_structure(text: &[u8]) -> Option<([u8; 9], &[u8])>
+    ensures { Gives (parse_structure text.now) result }
 {
-    if byte_at(text, at) == 10 {
-        return 0;
+    let mut structure = [1u8; 9];
+    if byte_at(text, 0) == b'\n' {
+        return Some((structure, text));
     }
-    9
+    let rest = parse_flags(text, &mut structure)?;
+    Some((structure, rest))
 }
 
-// The structure's flags, into a slice that holds nine ones: an empty line leaves them.
-fn parse_structure(text: &[u8], place: Place, structure: &mut [u8]) -> Place
-    requires { structure.old ≡ structure_bytes [] }
-    ensures { Parses text.now place parse_structure structure.new result }
-{
-    let Place::At(at) = place else {
-        return Place::Nowhere;
-    };
-    let n = flags_given_at(text, at);
-    parse_flags(text, place, n, structure)
+// What the text says. The shape's cells stand first in `cells`, an array since there is no heap.
+#[derive(Drop)]
+struct Frame {
+    shape: Shape,
+    structure: [u8; 9],
+    cells: [u8; 2304],
 }
 
-// All four lines.
-fn parse_frame(text: &[u8], structure: &mut [u8], cells: &mut [u8]) -> ParsedShape
-    requires { (structure.old ≡ structure_bytes []) × (length cells.old ≡ 2304) }
-    ensures { FrameParsed text.now structure.new cells.new result }
+// All four lines, and no byte after them.
+fn parse_frame(text: &[u8]) -> Option<Frame>
+    ensures { FrameParsed text.now result }
 {
-    let z = parse_shape(text);
-    let next = z.next;
-    let a = parse_exactly(text, next, b"structure=");
-    let b = parse_structure(text, a, structure);
-    let c = parse_exactly(text, b, b"\ncells=");
-    let d = parse_flags(text, c, z.lines * z.width, cells);
-    let e = parse_exactly(text, d, b"\n");
-    ParsedShape {
-        width: z.width,
-        lines: z.lines,
-        next: e,
+    let (shape, rest) = parse_shape(text)?;
+    let (structure, rest) = parse_structure(parse_exactly(rest, b"structure=")?)?;
+    let rest = parse_exactly(rest, b"\ncells=")?;
+    let mut cells = [0u8; 2304];
+    let rest = parse_flags(rest, &mut cells[..shape.size()])?;
+    let end = parse_exactly(rest, b"\n")?;
+    if !end.is_empty() {
+        return None;
     }
+    Some(Frame {
+        shape,
+        structure,
+        cells,
+    })
 }
 
-// Whether the text ends at a place.
-fn at_end(text: &[u8], place: Place) -> bool
-    ensures { result ≡ ends_at text.now place }
-{
-    let Place::At(at) = place else {
-        return false;
-    };
-    at >= text.len()
-}
+// ---- printing: what comes past the end of the slice is left out
 
-// ---- printing
-
-// One byte, where there is room; the place after it.
-fn put(out: &mut [u8], at: usize, byte: u8) -> usize
-    ensures { Adds (byte ∷ []) out.old at out.new result }
+// A number's decimal: the digits before the last one first. By hand, since by the kit's `itoa` the program would stand on one more crate,
+// and on a law that its decimal is ours.
+fn put_decimal(out: &mut Writer<u8>, n: usize)
+    ensures { Writes (decimal n) out.old out.new }
 {
-    if at < out.len() {
-        out[at] = byte;
-        return at + 1;
+    if n >= 10 {
+        put_decimal(out, n / 10);
     }
-    at
-}
-
-fn put_bytes(out: &mut [u8], at: usize, bytes: &[u8]) -> usize
-    ensures { Adds bytes.now out.old at out.new result }
-{
-    let mut to = at;
-    let mut i: usize = 0;
-    while i < bytes.len() {
-        to = put(out, to, bytes[i]);
-        i += 1;
-    }
-    to
-}
-
-// A number's decimal: the digits before the last one first.
-fn put_decimal(out: &mut [u8], at: usize, n: usize) -> usize
-    ensures { Adds (decimal n) out.old at out.new result }
-{
-    if n < 10 {
-        return put(out, at, 48 + n as u8);
-    }
-    let to = put_decimal(out, at, n / 10);
-    put(out, to, 48 + (n % 10) as u8)
+    out.put(b'0' + (n % 10) as u8);
 }
 
 // Numbers with one blank between.
-fn put_decimals(out: &mut [u8], at: usize, numbers: &[u16]) -> usize
-    ensures { Adds (decimals numbers.now) out.old at out.new result }
+fn put_decimals(out: &mut Writer<u8>, numbers: &[u16])
+    ensures { Writes (decimals numbers.now) out.old out.new }
 {
-    if numbers.len() == 0 {
-        return at;
+    let Some((first, others)) = numbers.split_first() else {
+        return;
+    };
+    put_decimal(out, usize::from(*first));
+    for number in others {
+        out.put(b' ');
+        put_decimal(out, usize::from(*number));
     }
-    let mut to = put_decimal(out, at, numbers[0] as usize);
-    let mut i: usize = 1;
-    while i < numbers.len() {
-        to = put(out, to, 32);
-        to = put_decimal(out, to, numbers[i] as usize);
-        i += 1;
-    }
-    to
 }
 
 // A line: a name and a number.
-fn put_line(out: &mut [u8], at: usize, name: &[u8], n: usize) -> usize
-    ensures { Adds (line name.now (decimal n) []) out.old at out.new result }
+fn put_line(out: &mut Writer<u8>, name: &[u8], n: usize)
+    ensures { Writes (line name.now (decimal n) []) out.old out.new }
 {
-    let a = put_bytes(out, at, name);
-    let b = put_decimal(out, a, n);
-    put(out, b, 10)
+    out.put_all(name);
+    put_decimal(out, n);
+    out.put(b'\n');
 }
 
-fn put_labelled_text(out: &mut [u8], n: usize, figures: frame::Figures, numbers: &[u16]) -> usize
-    ensures { Holds (labelled_text n figures numbers.now) out.old out.new result }
+fn put_labelled_text(out: &mut Writer<u8>, counted: label::Counted, numbers: &[u16])
+    ensures { Writes (labelled_text counted.n counted.figures numbers.now) out.old out.new }
 {
-    let a = put_line(out, 0, b"runs=", figures.runs);
-    let b = put_line(out, a, b"joins=", figures.joins);
-    let c = put_line(out, b, b"cells=", figures.cells);
-    let d = put_line(out, c, b"objects=", n);
-    let e = put_bytes(out, d, b"labels=");
-    let f = put_decimals(out, e, numbers);
-    put(out, f, 10)
+    put_line(out, b"runs=", counted.figures.runs);
+    put_line(out, b"joins=", counted.figures.joins);
+    put_line(out, b"cells=", counted.figures.cells);
+    put_line(out, b"objects=", counted.n);
+    out.put_all(b"labels=");
+    put_decimals(out, numbers);
+    out.put(b'\n');
 }
 
-fn put_refusal(out: &mut [u8], cause: usize) -> usize
-    ensures { Holds (refusal_text cause) out.old out.new result }
+// Why no labels are printed.
+#[derive(Clone, Copy)]
+enum Refusal {
+    // the text is not of the form
+    Form,
+    // the labelling refuses the frame
+    Frame(causes::Cause),
+}
+
+impl Refusal {
+    fn number(self) -> usize
+        ensures { result ≡ refusal_number self }
+    {
+        match self {
+            Refusal::Form => 11,
+            Refusal::Frame(cause) => cause.number() as usize,
+        }
+    }
+}
+
+fn put_refusal(out: &mut Writer<u8>, refusal: Refusal)
+    ensures { Writes (refusal_text (refusal_number refusal)) out.old out.new }
 {
-    put_line(out, 0, b"refused=", cause)
+    put_line(out, b"refused=", refusal.number());
 }
 
 // ---- labelling
 
-// Labels a frame in one call. 49 + 4 × 48 × 48 words are enough for each that a text can say, so it is accepted, or refused by 12.
-fn label_into(
-    width: usize,
-    lines: usize,
-    structure: &[u8],
-    cells: &[u8],
-    numbers: &mut [u16],
-) -> label::ReadAnswer
-    requires { LabelReady width lines structure.now cells.now numbers.old (lines * width) }
-    ensures { Labels (lines ∷ width ∷ []) structure.now (map nz cells.now)
-        (read_answer result) numbers.new }
+// Labels a frame in one call. 49 + 5 × 48 × 48 words are enough for each that a text can say, so it is accepted, or refused by 12.
+fn label_into(frame: &Frame, numbers: &mut [u16]) -> Result<label::Counted, causes::Cause>
+    requires { length numbers.old ≡ frame.now.shape.lines * frame.now.shape.width }
+    ensures { Labels (shape_of frame.now) frame.now.structure (cells_of frame.now) (read_answer result) numbers.new }
 {
     let mut words = [0u32; 11569];
-    let shape = [lines, width];
-    whole::label_impl_u8_u16(&shape, structure, &mut words, cells, numbers, 1)
+    let shape = [frame.shape.lines, frame.shape.width];
+    let cells = &frame.cells[..frame.shape.size()];
+    whole::label_impl(&shape, &frame.structure, &mut words, cells, numbers, 1)
 }
 
-// Prints an answer: its figures and the numbers, or its refusal.
-fn put_answer(out: &mut [u8], answer: label::ReadAnswer, numbers: &[u16]) -> usize
-    ensures { Holds (answer_text (read_answer answer) numbers.now) out.old out.new result }
+// Labels a frame and prints the answer: its figures and the labels, or its refusal.
+fn put_frame(out: &mut Writer<u8>, frame: &Frame)
+    ensures { Writes (output_for frame.now) out.old out.new }
 {
-    match answer {
-        label::ReadAnswer::Accepted { n, figures } => put_labelled_text(out, n, figures, numbers),
-        label::ReadAnswer::Refused(cause) => put_refusal(out, cause.number() as usize),
+    let mut numbers = [0u16; 2304];
+    let numbers = &mut numbers[..frame.shape.size()];
+    match label_into(frame, numbers) {
+        Ok(counted) => put_labelled_text(out, counted, numbers),
+        Err(cause) => put_refusal(out, Refusal::Frame(cause)),
     }
 }
 
-// Labels a frame and prints the answer. `numbers` is for its labels.
-fn label_frame(
-    width: usize,
-    lines: usize,
-    structure: &[u8],
-    cells: &[u8],
-    numbers: &mut [u16],
-    out: &mut [u8],
-) -> usize
-    requires { LabelReady width lines structure.now cells.now numbers.old 2304 }
-    ensures { Holds (output_to (lines ∷ width ∷ []) structure.now (map nz (take (lines * width) cells.now)))
-        out.old out.new result }
-{
-    let size = lines * width;
-    let answer = label_into(
-        width,
-        lines,
-        structure,
-        &cells[..size],
-        &mut numbers[..size],
-    );
-    put_answer(out, answer, &numbers[..size])
-}
-
 // ---- the program
+
+// Prints the answer to a text.
+fn put_answer(out: &mut Writer<u8>, text: &[u8])
+    ensures { Writes (clumps_of text.now) out.old out.new }
+{
+    match parse_frame(text) {
+        Some(frame) => put_frame(out, &frame),
+        None => put_refusal(out, Refusal::Form),
+    }
+}
 
 // Reads the text, labels its frame and prints the answer into `out`, as far as it reaches; answers the count of bytes printed. No output
 // has more than 11,572 bytes, and no accepted text more than 2,349 (proofs/LengthLaws.antt).
@@ -371,13 +262,7 @@ pub fn report(text: &[u8], out: &mut [u8]) -> usize
     ensures { (out.new ≡ overlay (clumps_of text.now) out.old)
         × (result ≡ min (length (clumps_of text.now)) (length out.old)) }
 {
-    let mut structure = [1u8; 9];
-    let mut cells = [0u8; 2304];
-    let mut numbers = [0u16; 2304];
-    let z = parse_frame(text, &mut structure, &mut cells);
-    let end = z.next;
-    if at_end(text, end) {
-        return label_frame(z.width, z.lines, &structure, &cells, &mut numbers, out);
-    }
-    put_refusal(out, 11)
+    let mut writer = Writer { out, at: 0 };
+    put_answer(&mut writer, text);
+    writer.at
 }

@@ -13,18 +13,17 @@ ghost use Rattle.std.specs.Prelude.{◌≡◌, suc, max};
 ghost use denote.Ref.{at_last};
 ghost use Rattle.forest.specs.Unions.{Parents, Sized, Finds, Unites, ToJoin, joined, ToReset, Reset};
 
-// Makes each run from `a` to before `b` a group of its own: its own parent, with its length as its size.
+// Makes each run from `a` to before `b` a group of its own: its own parent, with its length as its size. In union and unite `a` and `b` are
+// two runs and no bounds, so that no struct is for both.
 pub fn reset(p: &mut [u32], a: usize, b: usize)
     requires { ToReset p.old a b }
     ensures { Reset p.old p.new a b }
 {
-    let mut r = a;
-    while r < b {
+    for r in a..b {
         let s = p[frame::STRIDE * r];
         let e = p[frame::STRIDE * r + frame::END];
         p[frame::STRIDE * r + frame::PARENT] = r as u32;
         p[frame::STRIDE * r + frame::SIZE] = e - s;
-        r += 1;
     }
 }
 
@@ -65,9 +64,7 @@ pub fn union(p: &mut [u32], a: usize, b: usize) -> bool
     if ra == rb {
         return false;
     }
-    let lo = if ra < rb { ra } else { rb };
-    let hi = if ra < rb { rb } else { ra };
-    join(p, lo, hi);
+    join(p, ra.min(rb), ra.max(rb));
     true
 }
 
@@ -112,6 +109,6 @@ pub fn unite(p: &mut [u32], a: usize, b: usize) -> bool
     requires { Sized p.old (suc (max a b)) }
     ensures { Unites p.old p.new a b result }
 {
-    let mut u = Uf { p: p };
+    let mut u = Uf { p };
     u.union(a, b)
 }

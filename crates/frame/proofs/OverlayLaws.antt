@@ -3,10 +3,8 @@
 use mathlib.Core.Path.{◌≡◌, refl, sym, ap, ◌∙◌}
 use mathlib.Core.List.{List, [], ◌∷◌, ◌++◌, append-nil, append_assoc}
 use Prim.Native.Nat.{ℕ, suc, ◌+◌, ◌≤◌, ◌<◌}
-use native.Mathlib.Numerals.{add-one}
 use native.Mathlib.Omega.{arith}
-use lib.ListN.{length, take, drop, set, get_or, length-append, length-set}
-use lib.Seq.{take-suc, take_all}
+use lib.ListN.{length, drop, set, length-append, length-set}
 use Rattle.frame.specs.Overlay.{overlay, Holds, Adds}
 
 -- ---- overlay
@@ -51,18 +49,18 @@ overlay_short (x ∷ xs) (y ∷ ys) h = ap (λ (l : List _). x ∷ l) (overlay_s
 
 -- ---- entries written behind those before
 
-pub adds_none : {buf : List ℕ} {place : ℕ} → Adds [] buf place buf place
+pub adds_none : {A : Type 0} {buf : List A} {place : ℕ} → Adds [] buf place buf place
 adds_none = record { long = refl; behind = λ xs ys H. rw (append-nil xs) H }
 
-pub adds_then : {zs vs a b c : List ℕ} {i j k : ℕ} → Adds zs a i b j → Adds vs b j c k → Adds (zs ++ vs) a i c k
-adds_then {zs} {vs} A B =
+pub adds_then : {A : Type 0} {zs vs a b c : List A} {i j k : ℕ} → Adds zs a i b j → Adds vs b j c k → Adds (zs ++ vs) a i c k
+adds_then {zs = zs} {vs = vs} A B =
     record { long = B.long ∙ A.long; behind = λ xs ys H. rw (← append_assoc xs zs vs) (B.behind (xs ++ zs) ys (A.behind xs ys H)) }
 
 -- one, where there is room and where there is none
-pub adds_put : (x : ℕ) (buf : List ℕ) (place : ℕ) → place < length buf → Adds (x ∷ []) buf place (set buf place x) (place + 1)
+pub adds_put : {A : Type 0} (x : A) (buf : List A) (place : ℕ) → place < length buf → Adds (x ∷ []) buf place (set buf place x) (place + 1)
 adds_put x buf place h = record { long = simp length-set; behind = λ xs ys H. room xs ys H (length_overlay xs ys) }
   where
-    room : (xs ys : List ℕ) → Holds xs ys buf place → length (overlay xs ys) ≡ length ys
+    room : (xs ys : List _) → Holds xs ys buf place → length (overlay xs ys) ≡ length ys
         → Holds (xs ++ x ∷ []) ys (set buf place x) (place + 1)
     room xs ys H n =
         let l : length buf ≡ length ys = ap length H.now_is ∙ n in
@@ -72,10 +70,10 @@ adds_put x buf place h = record { long = simp length-set; behind = λ xs ys H. r
           place_is = omega (arith, length-append xs (x ∷ []));
         }
 
-pub adds_full : (x : ℕ) (buf : List ℕ) (place : ℕ) → length buf ≤ place → Adds (x ∷ []) buf place buf place
+pub adds_full : {A : Type 0} (x : A) (buf : List A) (place : ℕ) → length buf ≤ place → Adds (x ∷ []) buf place buf place
 adds_full x buf place h = record { long = refl; behind = λ xs ys H. full xs ys H (length_overlay xs ys) }
   where
-    full : (xs ys : List ℕ) → Holds xs ys buf place → length (overlay xs ys) ≡ length ys → Holds (xs ++ x ∷ []) ys buf place
+    full : (xs ys : List _) → Holds xs ys buf place → length (overlay xs ys) ≡ length ys → Holds (xs ++ x ∷ []) ys buf place
     full xs ys H n =
         let l : length buf ≡ length ys = ap length H.now_is ∙ n in
         let e : length ys ≤ length xs = omega (arith, H.place_is) in
@@ -84,15 +82,7 @@ adds_full x buf place h = record { long = refl; behind = λ xs ys H. full xs ys 
           place_is = omega (arith, H.place_is, length-append xs (x ∷ []));
         }
 
--- a list, entry by entry: the first i of them are written, and then one more
-pub adds_next : (out : List ℕ) (i : ℕ) {a b c : List ℕ} {j k l : ℕ} → i < length out → Adds (take i out) a j b k
-    → Adds (get_or out i 0 ∷ []) b k c l → Adds (take (i + 1) out) a j c l
-adds_next out i h A B = rw (add-one i, take-suc out i 0 h) (adds_then A B)
-
-pub adds_all : (out : List ℕ) (i : ℕ) {a b : List ℕ} {j k : ℕ} → length out ≤ i → Adds (take i out) a j b k → Adds out a j b k
-adds_all out i h A = rw (take_all i out h) at A
-
 -- from the first place on
-pub adds_first : {zs ys now : List ℕ} {place : ℕ} → Adds zs ys 0 now place → Holds zs ys now place
+pub adds_first : {A : Type 0} {zs ys now : List A} {place : ℕ} → Adds zs ys 0 now place → Holds zs ys now place
 unfolding overlay
 adds_first {ys = ys} A = A.behind [] ys (record { now_is = refl; place_is = omega arith })

@@ -9,11 +9,11 @@ overlay (x ∷ xs) [] = []
 overlay (x ∷ xs) (y ∷ ys) = x ∷ overlay xs ys
 
 -- the slice was ys, xs were written to it, and `place` is the next place: the length, where it is full
-pub record Holds (xs ys now : List ℕ) (place : ℕ) : Type 0 where
+pub record Holds {A : Type 0} (xs ys now : List A) (place : ℕ) : Type 0 where
   pub now_is : now ≡ overlay xs ys
   pub place_is : place ≡ min (length xs) (length ys)
 
 -- zs are written behind whatever was written before
-pub record Adds (zs before : List ℕ) (place : ℕ) (after : List ℕ) (place' : ℕ) : Type 0 where
+pub record Adds {A : Type 0} (zs before : List A) (place : ℕ) (after : List A) (place' : ℕ) : Type 0 where
   pub long : length after ≡ length before
-  pub behind : (xs ys : List ℕ) → Holds xs ys before place → Holds (xs ++ zs) ys after place'
+  pub behind : (xs ys : List A) → Holds xs ys before place → Holds (xs ++ zs) ys after place'

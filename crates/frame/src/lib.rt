@@ -8,7 +8,7 @@ ghost use Rattle.frame.specs.Sums.{plus_figures, FiguresFit};
 
 // The figures that every accepted answer has, and a record keeps: runs, joins and nonzero cells so far. Definitions and code have them as
 // this one type.
-#[derive(Clone, Copy)]
+#[derive(Clone, Copy, PartialEq, Eq, Debug)]
 pub struct Figures {
     pub runs: usize,
     pub joins: usize,
@@ -41,7 +41,8 @@ impl Figures {
 }
 
 // Each run has STRIDE words. Counted from its first, which holds its start, END holds its end (one past), PARENT its parent, NAME its
-// name and SIZE, at a root, its group's cell count: specs/Words.antt.
+// name and SIZE, at a root, its group's cell count: specs/Words.antt. The documents lay the lent words out so: a run is a number, and no
+// struct.
 pub const STRIDE: usize = 5;
 
 pub const END: usize = 1;

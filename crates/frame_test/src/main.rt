@@ -2,250 +2,188 @@
 // numbers, and every word, among them the size of each root; and the same frames with lopsided structures, which are refused.
 #![tactic(auto)]
 
-use flood::{Extent, layout, less, plus, times};
-use samples::{below, next, tally};
-use trial::answers::Answer;
-use trial::{answers, frames};
-
-// Which call: the kind of cells times 4 and the kind of numbers, the cells given, and the places of the output.
-#[derive(Clone, Copy)]
-struct Call {
-    kinds: usize,
-    cells: usize,
-    places: usize,
-}
+use causes::Cause;
+use flood::layout::{UNREAD, Words};
+use flood::{CELLS, Frame, Groups, begins_with};
+use label::Counted;
+use samples::{below, first, lend, near, next};
+use std::io;
+use trial::{CellKind, Labelled, NumberKind, Tally, WholeCall, add, report};
 
 // ---- against the flood fill
 
-// What it should answer, given the cells of the frame, and its groups and runs.
-fn right_answer(call: Call, exact: usize, count: flood::Count) -> Answer {
-    if call.cells != exact {
-        return answers::refused(8);
-    }
-    if call.places != exact {
-        return answers::refused(9);
-    }
-    if count.n > answers::largest(call.kinds % 4) {
-        return answers::refused(10);
-    }
-    answers::accepted(count.n, count)
+// What a call should answer, the words that it should leave but for what is free, and the groups and sizes of the lines fed then.
+#[derive(Clone, Copy)]
+struct Right {
+    answer: Result<Counted, Cause>,
+    laid: Words,
+    groups: Groups,
+    sizes: [u32; CELLS],
 }
 
-// The words that it should leave, but for parents and sizes: a frame refused with 8 or 9 leaves them as they were, one refused with 10 as
-// after feeding; else the runs have names.
-fn lay(
-    laid: &mut [u32; 3841],
-    e: Extent,
-    flags: &[u8],
-    marks: &[u32; 1920],
-    runs: usize,
-    cause: usize,
-) {
-    if (cause == 8) | (cause == 9) {
-        return;
+impl Right {
+    // Refused before anything is written.
+    fn unwritten(frame: Frame, cause: Cause) -> Right {
+        let groups = frame.groups(0);
+        Right {
+            answer: Err(cause),
+            laid: Words::unwritten(frame.extent),
+            groups,
+            sizes: groups.sizes(),
+        }
     }
-    layout::lay(laid, e, flags, e.lines);
-    layout::lay_names(laid, e, marks, times(runs, (cause == 0) as usize));
-}
 
-// Whether the parents are such as they should be: of so many runs in so many groups. `laid` takes them, and the right size of each root.
-fn parents_fit(
-    laid: &mut [u32; 3841],
-    words: &[u32; 3841],
-    marks: &[u32; 1920],
-    sizes: &[u32; 640],
-    e: Extent,
-    runs: usize,
-    n: usize,
-) -> bool {
-    layout::take_groups(laid, words, marks, e, runs, sizes) == less(runs, n)
-}
-
-// One block count. Whether words, output and answer are as they should be; `fed` are the runs that are in the words then, `n` their groups.
-fn try_blocks(
-    shape: &[usize],
-    structure: &[u8],
-    flags: &[u8],
-    call: Call,
-    blocks: usize,
-    laid: &mut [u32; 3841],
-    marks: &[u32; 1920],
-    sizes: &[u32; 640],
-    right: Answer,
-    fed: flood::Count,
-) -> bool {
-    let mut words = [7u32; 3841];
-    let mut got = [171u32; 640];
-    let e = flood::extent_of(shape, structure);
-    let lent = samples::lend_u32(&mut words, layout::words_needed(e));
-    let cells = samples::first(flags, call.cells);
-    let said = frames::label(
-        call.kinds,
-        shape,
-        structure,
-        lent,
-        cells,
-        call.places,
-        blocks,
-        &mut got,
-    );
-    let joined = parents_fit(laid, &words, marks, sizes, e, fed.runs, fed.n);
-    let written = times(call.places, (right.number == 0) as usize);
-    joined
-        & answers::same(said, right)
-        & layout::words_alike(&words, laid)
-        & layout::places_alike(&got, marks, written)
-}
-
-fn try_all_blocks(
-    shape: &[usize],
-    structure: &[u8],
-    flags: &[u8],
-    call: Call,
-    lines: usize,
-    laid: &mut [u32; 3841],
-    marks: &[u32; 1920],
-    sizes: &[u32; 640],
-    right: Answer,
-    fed: flood::Count,
-    state: &mut [u64; 48],
-) {
-    for blocks in 0..plus(lines, 2) {
-        let agreed = try_blocks(
-            shape, structure, flags, call, blocks, laid, marks, sizes, right, fed,
-        );
-        tally::count(state, tally::TRIED, right.number, agreed);
-    }
-}
-
-// What was fed: nothing where the cells or the places do not fit.
-fn fed_by(cause: usize, all: flood::Count) -> flood::Count {
-    if (cause == 8) | (cause == 9) {
-        return flood::Count {
-            n: 0,
-            runs: 0,
-            cells: 0,
+    // Fed all lines. Where there are more groups than the kind has numbers, it is refused then, and the runs get no names.
+    fn fed(frame: Frame, numbers: NumberKind) -> Right {
+        let groups = frame.groups(frame.extent.lines);
+        let n = groups.count.n;
+        let figures = trial::figures(groups.count);
+        let mut laid = Words::unwritten(frame.extent);
+        laid.lay(frame, frame.extent.lines);
+        let answer = if n <= numbers.largest() {
+            laid.lay_names(&groups);
+            Ok(Counted { n, figures })
+        } else {
+            Err(Cause::Kind)
         };
+        Right {
+            answer,
+            laid,
+            groups,
+            sizes: groups.sizes(),
+        }
     }
-    all
-}
 
-// A frame by one call, for every block count.
-fn try_call(
-    shape: &[usize],
-    structure: &[u8],
-    flags: &[u8; 640],
-    call: Call,
-    state: &mut [u64; 48],
-) {
-    let mut laid = [7u32; 3841];
-    let mut marks = [0u32; 1920];
-    let mut sizes = [0u32; 640];
-    let e = flood::extent_of(shape, structure);
-    let exact = times(e.lines, e.width);
-    let all = flood::number_cells(e, structure, flags, exact, &mut marks);
-    flood::count_cells(&marks, exact, &mut sizes);
-    let right = right_answer(call, exact, all);
-    let fed = fed_by(right.number, all);
-    lay(&mut laid, e, flags, &marks, all.runs, right.number);
-    try_all_blocks(
-        shape, structure, flags, call, e.lines, &mut laid, &marks, &sizes, right, fed, state,
-    );
-}
+    // With so many cells given.
+    fn of(frame: Frame, cells: usize, call: WholeCall) -> Right {
+        let exact = frame.extent.cells(frame.extent.lines);
+        if cells != exact {
+            Right::unwritten(frame, Cause::Cells)
+        } else if call.places != exact {
+            Right::unwritten(frame, Cause::Length)
+        } else {
+            Right::fed(frame, call.numbers)
+        }
+    }
 
-// With a structure made lopsided, whatever cells and places are given: 12, and nothing is written.
-fn try_lopsided(
-    shape: &[usize],
-    structure: &[u8],
-    flags: &[u8; 640],
-    call: Call,
-    state: &mut [u64; 48],
-) {
-    let mut laid = [7u32; 3841];
-    let marks = [0u32; 1920];
-    let sizes = [0u32; 640];
-    let none = flood::Count {
-        n: 0,
-        runs: 0,
-        cells: 0,
-    };
-    let right = answers::refused(12);
-    let blocks = below(tally::random(state), 4);
-    let agreed = try_blocks(
-        shape, structure, flags, call, blocks, &mut laid, &marks, &sizes, right, none,
-    );
-    tally::count(state, tally::OTHER, right.number, agreed);
-}
-
-// A random call, for as many cells, now and then one more or one less.
-fn draw(exact: usize, x: u64) -> Call {
-    Call {
-        kinds: plus(times(4, below(x, 4)), below(next(x), 3)),
-        cells: samples::near(exact, next(next(x))),
-        places: samples::near(exact, next(next(next(x)))),
+    // Whether this is what a call answers and leaves. `laid` takes over from the words what is free.
+    fn comes_of(&mut self, given: Frame, call: WholeCall) -> bool {
+        let mut words = Words::unwritten(given.extent);
+        let lent = lend(&mut words.all, given.extent.words_needed());
+        let Labelled { answer, output } = trial::label(given, lent, call);
+        let joins = self.laid.take_groups(&words, &self.groups, &self.sizes);
+        let written = if answer.is_ok() { call.places } else { 0 };
+        answer == self.answer
+            && joins == Some(trial::figures(self.groups.count).joins)
+            && words == self.laid
+            && begins_with(&output, first(&self.groups.numbers, written), UNREAD)
     }
 }
 
-fn try_frame(state: &mut [u64; 48]) {
-    let mut structure = [0u8; 81];
-    let mut flags = [0u8; 640];
-    let shape = samples::random_frame(state, &mut structure, &mut flags);
-    let used = samples::first_sizes(&shape.entries, shape.rank);
-    let bytes = samples::first(&structure, samples::power3(shape.rank));
-    let e = flood::extent_of(used, bytes);
-    let call = draw(times(e.lines, e.width), tally::random(state));
-    tally::add(state, plus(tally::CODES, call.kinds / 4));
-    tally::add(state, plus(tally::CODES, plus(call.kinds % 4, 4)));
-    try_call(used, bytes, &flags, call, state);
-    let count = samples::power3(shape.rank);
-    let lopsided = samples::lopsided(structure, count, tally::random(state));
-    try_lopsided(used, samples::first(&lopsided, count), &flags, call, state);
+// A frame by one call that is given so many cells, for every block count.
+fn try_call(frame: Frame, cells: usize, call: WholeCall, counts: &mut Counts) {
+    let mut right = Right::of(frame, cells, call);
+    let cause = right.answer.err();
+    let given = Frame::new(frame.shape, frame.structure, first(frame.flags, cells));
+    for blocks in 0..frame.extent.lines.wrapping_add(2) {
+        let agreed = right.comes_of(given, WholeCall { blocks, ..call });
+        add(&mut counts.frames);
+        counts.tally.count(cause, agreed);
+    }
 }
 
-fn try_frames(state: &mut [u64; 48]) {
-    for i in 0..4000usize {
-        try_frame(state);
+// With a structure made lopsided, whatever cells and places are given.
+fn try_lopsided(given: Frame, call: WholeCall, counts: &mut Counts) {
+    let blocks = below(counts.tally.draw(), 4);
+    let mut right = Right::unwritten(given, Cause::Lopsided);
+    let agreed = right.comes_of(given, WholeCall { blocks, ..call });
+    counts.tally.count(Some(Cause::Lopsided), agreed);
+}
+
+// ---- random frames
+
+// Of random kinds, for as many places, now and then one more or one less.
+fn draw_call(exact: usize, x: u64) -> WholeCall {
+    WholeCall {
+        cells: CellKind::of(x),
+        numbers: NumberKind::of(next(x)),
+        places: near(exact, next(next(next(x)))),
+        blocks: 0,
     }
+}
+
+fn try_frame(counts: &mut Counts) {
+    let drawn = counts.tally.draw_frame();
+    let frame = Frame::new(drawn.shape.used(), drawn.structure.used(), &drawn.flags);
+    let exact = frame.extent.cells(frame.extent.lines);
+    let x = counts.tally.draw();
+    let call = draw_call(exact, x);
+    let cells = near(exact, next(next(x)));
+    counts.tally.count_cells(call.cells);
+    counts.tally.count_numbers(call.numbers);
+    try_call(frame, cells, call, counts);
+    let lopsided = drawn.structure.lopsided(counts.tally.draw());
+    let given = Frame::new(frame.shape, lopsided.used(), first(frame.flags, cells));
+    try_lopsided(given, call, counts);
 }
 
 // ---- fixed cases
 
-// A line of so many cells, every other nonzero, from u8 into a kind of numbers.
-fn try_lone(width: usize, kind: usize, state: &mut [u64; 48]) {
-    let mut flags = [0u8; 640];
-    samples::make_lone(&mut flags);
-    let call = Call {
-        kinds: kind,
-        cells: width,
+// A line of so many cells, every other nonzero.
+fn try_lone(width: usize, numbers: NumberKind, counts: &mut Counts) {
+    let flags = samples::lone_flags();
+    let call = WholeCall {
+        cells: CellKind::U8,
+        numbers,
         places: width,
+        blocks: 0,
     };
-    try_call(&[width], &[1, 1, 1], &flags, call, state);
+    try_call(
+        Frame::new(&[width], &[1, 1, 1], &flags),
+        width,
+        call,
+        counts,
+    );
 }
 
-fn main() {
-    let mut state = [0u64; 48];
-    state[0] = 88172645463325252;
-    try_lone(509, 0, &mut state);
-    try_lone(509, 1, &mut state);
-    try_lone(511, 0, &mut state);
-    try_lone(511, 1, &mut state);
-    try_frames(&mut state);
-    report(&state);
+fn try_all_lone(counts: &mut Counts) {
+    for width in [509, 511] {
+        try_lone(width, NumberKind::U8, counts);
+        try_lone(width, NumberKind::U16, counts);
+    }
 }
 
-fn report(state: &[u64; 48]) {
-    tally::report(
-        state,
-        b"whole frames, one for each block count: #\n",
-        tally::TRIED,
-    );
-    tally::report_frames(state);
-    tally::report(
-        state,
-        b"cells u8: #\ncells u16: #\ncells i16: #\ncells f32: #\nnumbers u8: #\nnumbers u16: #\nnumbers u32: #\n",
-        tally::CODES,
-    );
-    tally::report(state, b"refused 8: #\nrefused 9: #\nrefused 10: #\n", 32);
-    tally::report(state, b"refused 12: #\n", tally::REFUSED_12);
-    tally::report(state, b"differed=#\n", tally::DIFFERED);
+// ---- the counts
+
+#[derive(Drop)]
+struct Counts {
+    tally: Tally,
+    // Whole frames, one for each block count.
+    frames: u64,
+}
+
+impl Counts {
+    fn report(&self, rt: &impl Print) -> io::Result<()> {
+        report(
+            rt,
+            &[("whole frames, one for each block count", self.frames)],
+        )?;
+        self.tally.report_frames(rt)?;
+        self.tally.report_kinds(rt)?;
+        let refused = [Cause::Cells, Cause::Length, Cause::Kind, Cause::Lopsided];
+        self.tally.report_refused(rt, &refused)?;
+        self.tally.report_outcome(rt)
+    }
+}
+
+fn main(rt: HostRuntime) -> io::Result<()> {
+    let mut counts = Counts {
+        tally: Tally::new(),
+        frames: 0,
+    };
+    try_all_lone(&mut counts);
+    for _ in 0..4000 {
+        try_frame(&mut counts);
+    }
+    counts.report(&rt)
 }

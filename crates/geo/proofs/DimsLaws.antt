@@ -1,12 +1,13 @@
 -- The dimensions of a shape of rank 1 to 4: the leading ones as three, and the width.
 -- Assumes nothing.
 use mathlib.Core.Path.{◌≡◌, refl, sym, ap, ◌∙◌}
-use mathlib.Core.Bool.{Bool, true, false, ◌||◌}
+use mathlib.Core.Bool.{Bool, false, ◌||◌}
 use mathlib.Core.List.{List, [], ◌∷◌, ◌++◌}
 use Prim.Native.Nat.{ℕ, zero, suc, ◌-◌, ◌≤◌}
 use native.Mathlib.Omega.{arith}
 use lib.Dec.{eqb, ltb}
 use lib.ListN.{length, get_or, replicate}
+use Rattle.std.specs.List.{list_any}
 use Rattle.frame.specs.ChainRule.{range}
 use Rattle.frame.specs.Lists.{entries}
 use Rattle.frame.specs.Shape.{size, width, leading, lines}
@@ -72,18 +73,10 @@ unfolding has_zero
 zero_ones zero l = refl
 zero_ones (suc k) l = zero_ones k l
 
-zero_three : (a b c : ℕ) → (eqb a 0 || eqb b 0) || eqb c 0 ≡ has_zero (a ∷ b ∷ c ∷ [])
+pub zero_among : (l : List ℕ) → list_any (λ d. eqb d 0) l ≡ has_zero l
 unfolding has_zero
-zero_three a b c = go (eqb a 0) (eqb b 0) (eqb c 0)
-  where
-    go : (x y z : Bool) → (x || y) || z ≡ x || (y || (z || false))
-    go true y z = refl
-    go false true z = refl
-    go false false true = refl
-    go false false false = refl
-
-pub zero_dims : (dims : List ℕ) → length dims ≡ 3 → (eqb (get_or dims 0 0) 0 || eqb (get_or dims 1 0) 0) || eqb (get_or dims 2 0) 0 ≡ has_zero dims
-zero_dims dims l = zero_three (get_or dims 0 0) (get_or dims 1 0) (get_or dims 2 0) ∙ ap has_zero (sym (three_entries 0 dims l))
+zero_among [] = refl
+zero_among (d ∷ ds) = ap (λ (b : Bool). eqb d 0 || b) (zero_among ds)
 
 -- ---- width
 

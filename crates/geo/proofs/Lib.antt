@@ -1,6 +1,7 @@
 pub mod CopyLaws
 pub mod ProductLaws
 pub mod DimsLaws
+pub mod AnyLaws
 pub mod LeftLaws
 pub mod LopsidedLaws
 pub mod WiderLaws

@@ -1,6 +1,6 @@
 -- Which shape, structure, memory and lines fed may stand in a record: the test decides it, and what each condition of `shape_sound` answers.
 -- Assumes nothing.
-use mathlib.Core.Path.{◌≡◌, refl, sym, ap, ap₂, ◌∙◌}
+use mathlib.Core.Path.{◌≡◌, refl, sym, ap, ap₂, ◌∙◌, subst}
 use mathlib.Core.Bool.{Bool, true, false, not, ◌||◌, ◌&&◌, true≢false}
 use mathlib.Core.List.{List}
 use Prim.Native.Nat.{ℕ, zero, suc, ◌^◌, ◌≤◌}
@@ -8,6 +8,9 @@ use native.Mathlib.Omega.{arith}
 use borrow.Author.Tests.{leb-true, le-leb, not-true}
 use lib.Dec.{eqb, ltb, leb}
 use lib.ListN.{length}
+use Rattle.std.proofs.Common.{Option, None}
+use Rattle.std.proofs.lemmas.Option.{same_Some}
+use Rattle.std.specs.Bool.{then_some}
 use Rattle.groups.proofs.BoolLaws.{bool_same, and_true, and_left, and_right}
 use Rattle.frame.specs.Lists.{entries}
 use Rattle.frame.specs.Shape.{lines}
@@ -17,7 +20,7 @@ use Rattle.frame.proofs.EntryLaws.{length_entries}
 use Rattle.frame.proofs.SymmetryLaws.{lopsided_entries}
 use Rattle.frame.proofs.ListLaws.{every_at, every_more, every_none}
 use Rattle.geo.specs.declared.Geo.{Geo}
-use Rattle.geo.specs.Geometry.{ShapeReady, Measured, GeoOf, WithinLimits, large_geo, words_of, ShapeSound, shape_sound}
+use Rattle.geo.specs.Geometry.{ShapeReady, Measured, GeoOf, WithinLimits, large_geo, words_of, ShapeSound, shape_sound, ShapeFound}
 use Rattle.geo.proofs.DimsLaws.{bad_rank_is, rank_limits}
 use Rattle.geo.proofs.GeoLaws.{measured_zero, measured_large, measured_geo, not_large, geo_words}
 
@@ -93,6 +96,19 @@ module _ (dims bytes : List ℕ) (memory fed : ℕ) where
   pub rank_breaks : bad_rank dims ≡ true → false ≡ shape_sound dims bytes memory fed
   rank_breaks bad = shape_unsound (λ A. true≢false (sym bad ∙ A.ranked))
 
+-- a test after which another is made
+pub and_then : (a b v : Bool) → a ≡ true → v ≡ b → v ≡ a && b
+and_then a b v h e = rw h e
+
+pub and_else : (a b v : Bool) → a ≡ false → v ≡ false → v ≡ a && b
+and_else a b v h e = rw h e
+
+-- a test that answers nothing
+pub nothing_found : {rank : ℕ} {shape structure : List ℕ} {memory fed : ℕ}
+    → false ≡ shape_sound (entries rank shape) (entries (3 ^ rank) structure) memory fed
+    → ShapeFound rank shape structure memory fed None
+nothing_found e = record { told = e; geometry = λ g is. cc }
+
 -- ---- of a record's arrays, where the rank is 1 to 4, by their geometry
 
 module _ (rank : ℕ) (shape structure : List ℕ) (ranked : bad_rank (entries rank shape) ≡ false) (g : Geo)
@@ -120,7 +136,7 @@ module _ (rank : ℕ) (shape structure : List ℕ) (ranked : bad_rank (entries r
     pub found_limits : WithinLimits g
     found_limits = not_large g none.1
 
-    pub found_geo : GeoOf rank shape structure g
+    found_geo : GeoOf rank shape structure g
     found_geo = measured_geo rank shape structure ranked g G limits
 
     words_are : words_of g ≡ words_needed (entries rank shape) (entries (3 ^ rank) structure)
@@ -129,7 +145,7 @@ module _ (rank : ℕ) (shape structure : List ℕ) (ranked : bad_rank (entries r
     sided : lopsided (length (entries rank shape)) (entries (3 ^ rank) structure) ≡ lopsided rank structure
     sided = ap (λ (r : ℕ). lopsided r (entries (3 ^ rank) structure)) (length_entries rank shape) ∙ lopsided_entries rank structure
 
-    pub rest_decides : (b : Bool) → b ≡ lopsided rank structure → (needed : ℕ) → needed ≡ words_of g
+    rest_decides : (b : Bool) → b ≡ lopsided rank structure → (needed : ℕ) → needed ≡ words_of g
         → (not b && leb needed memory) && leb fed g.lines ≡ told
     rest_decides b is_b needed is =
         bool_same ((not b && leb needed memory) && leb fed g.lines) told
@@ -150,3 +166,14 @@ module _ (rank : ℕ) (shape structure : List ℕ) (ranked : bad_rank (entries r
         (and_true (not b) (leb needed memory) (ap not (is_b ∙ sym sided ∙ A.not_lopsided))
         (le-leb needed memory (omega (arith, is, words_are, A.memory))))
         (le-leb fed g.lines (omega (arith, found_geo.lines_is, A.within))))
+
+    -- b is whether the structure is lopsided, v whether it is not and there are words enough, t whether all is well
+    pub rest_found : (b v t : Bool) → b ≡ lopsided rank structure → v ≡ not b && leb (words_of g) memory → t ≡ v && leb fed g.lines
+        → (r : Option Geo) → r ≡ then_some t g → ShapeFound rank shape structure memory fed r
+    rest_found b v t is_b is_v is_t r is =
+        subst (ShapeFound rank shape structure memory fed) (sym is)
+        (go t (is_t ∙ ap (λ (v : Bool). v && leb fed g.lines) is_v ∙ rest_decides b is_b (words_of g) refl))
+      where
+        go : (t : Bool) → t ≡ told → ShapeFound rank shape structure memory fed (then_some t g)
+        go true e = record { told = e; geometry = λ h same. subst (GeoOf rank shape structure) (same_Some g h same) found_geo }
+        go false e = nothing_found e

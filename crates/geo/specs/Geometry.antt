@@ -1,13 +1,12 @@
 -- Shape and structure as numbers: what they are of a record's arrays, what the functions ask of them, and which may stand in a record.
 -- Assumes nothing.
-use Rattle.std.specs.Prelude.{◌≡◌, Bool, true, false, not, ◌||◌, List, [], ◌∷◌, ◌++◌, ℕ, suc, ◌+◌, ◌-◌, ◌*◌, ◌^◌, ◌≤◌, ◌<◌, min, leb, length, take, drop, replicate}
+use Rattle.std.specs.Prelude.{◌≡◌, Bool, false, not, ◌||◌, List, [], ◌∷◌, ◌++◌, ℕ, suc, ◌+◌, ◌-◌, ◌*◌, ◌^◌, ◌≤◌, ◌<◌, min, leb, length, take, drop, replicate, Option, Some, is_some}
 use Rattle.frame.specs.Lists.{entries, every}
 use Rattle.frame.specs.Shape.{size, width, leading, lines}
 use Rattle.frame.specs.Structure.{left_on}
 use Rattle.frame.specs.Memory.{stride, most_runs, words_needed}
 use Rattle.frame.specs.Causes.{bad_rank, has_zero, too_large, lopsided}
 use Rattle.geo.specs.declared.Geo.{Geo}
-use Rattle.geo.specs.declared.Shaped.{Shaped}
 
 -- ---- three dimensions: the leading ones are the last n of them, and those before are 1
 
@@ -86,7 +85,7 @@ module _ (dims bytes : List ℕ) (words fed : ℕ) where
       ∷ leb fed (lines dims)
       ∷ [])
 
--- what the test of a record's arrays finds: whether they may stand in a record, and where they may their geometry
-pub record ShapeFound (rank : ℕ) (shape structure : List ℕ) (words fed : ℕ) (f : Shaped) : Type 0 where
-  pub told : f.sound ≡ shape_sound (entries rank shape) (entries (3 ^ rank) structure) words fed
-  pub geometry : f.sound ≡ true → GeoOf rank shape structure f.geo
+-- what the test of a record's arrays finds: their geometry, exactly where they may stand in a record
+pub record ShapeFound (rank : ℕ) (shape structure : List ℕ) (words fed : ℕ) (found : Option Geo) : Type 0 where
+  pub told : is_some found ≡ shape_sound (entries rank shape) (entries (3 ^ rank) structure) words fed
+  pub geometry : (g : Geo) → found ≡ Some g → GeoOf rank shape structure g

@@ -6,7 +6,7 @@
 //     lopsided                         cause 12
 //     not_wider                        cause 19
 //     words_needed                     the words of memory that a session needs
-//     shape_sound                      whether shape, structure, memory and lines fed are such as a sound record's, and their geometry
+//     shape_sound                      the geometry of shape, structure, memory and lines fed, if they are such as a sound record's
 //     shape_of, structure_of           the arrays of a lent shape and structure
 #![tactic(auto)]
 
@@ -25,7 +25,7 @@ const LIMIT: usize = 4294967293;
 
 // How many leading dimensions there are, and they as three, those before the first being 1; lines, width, and whether the left byte
 // is nonzero.
-#[derive(Clone, Copy)]
+#[derive(Clone, Copy, PartialEq, Eq, Debug)]
 pub struct Geo {
     pub leads: usize,
     pub dims: [usize; 3],
@@ -52,17 +52,6 @@ pub fn geo_of(rank: usize, shape: [usize; 4], structure: &[u8]) -> Geo
     }
 }
 
-// A geometry that stands beside a refusal, and says nothing.
-pub fn no_geo() -> Geo {
-    Geo {
-        leads: 0,
-        dims: [1; 3],
-        lines: 0,
-        width: 0,
-        left: false,
-    }
-}
-
 // L + 1 + 5 × L × h.
 pub fn words_needed(g: Geo) -> usize
     requires { WithinLimits g }
@@ -77,10 +66,7 @@ pub fn most_runs(left: bool, w: usize) -> usize
     requires { w < 2147483647 }
     ensures { result ≡ most_runs left w }
 {
-    if left {
-        return (w + 1) / 2;
-    }
-    w
+    if left { w.div_ceil(2) } else { w }
 }
 
 // ---- causes of a refusal
@@ -89,15 +75,14 @@ pub fn most_runs(left: bool, w: usize) -> usize
 pub fn bad_rank(rank: usize) -> bool
     ensures { result ≡ (eqb rank 0 || ltb 4 rank) }
 {
-    (rank == 0) | (rank > 4)
+    rank == 0 || rank > 4
 }
 
 // 3: a leading dimension is 0.
 pub fn has_zero(g: Geo) -> bool
     ensures { result ≡ has_zero g.dims }
 {
-    let dims = g.dims;
-    (dims[0] == 0) | (dims[1] == 0) | (dims[2] == 0)
+    g.dims.contains(&0)
 }
 
 // 4: w ≥ 2,147,483,647, or L or L × w ≥ 4,294,967,293. Products that do not fit are too large.
@@ -106,7 +91,7 @@ pub fn too_large(g: Geo) -> bool
     ensures { result ≡ large_geo g }
 {
     let cells = product(g.lines, g.width);
-    (g.width >= WIDTH_LIMIT) | (g.lines >= LIMIT) | (cells >= LIMIT)
+    g.width >= WIDTH_LIMIT || g.lines >= LIMIT || cells >= LIMIT
 }
 
 // 12: byte i and byte 3^rank - 1 - i are not both zero or both nonzero. Each pair has one of its bytes before the centre.
@@ -115,14 +100,7 @@ pub fn lopsided(rank: usize, structure: &[u8]) -> bool
     ensures { result ≡ lopsided rank structure.now }
 {
     let last = power3(rank) - 1;
-    let mut i = 0usize;
-    while i < last - i {
-        if (structure[i] != 0) != (structure[last - i] != 0) {
-            return true;
-        }
-        i += 1;
-    }
-    false
+    (0..last / 2).any(|i| (structure[i] != 0) != (structure[last - i] != 0))
 }
 
 // 19: the left bytes differ in being zero, or an offset nonzero in the old structure is zero in the new. The centre's is looked at too.
@@ -130,28 +108,11 @@ pub fn not_wider(rank: usize, old: &[u8], new: &[u8]) -> bool
     requires { (1 ≤ rank) × (rank ≤ 4) × (3 ^ rank ≤ length old.now) × (3 ^ rank ≤ length new.now) }
     ensures { result ≡ not_wider rank old.now new.now }
 {
-    if left_byte(rank, old) != left_byte(rank, new) {
-        return true;
-    }
-    let count = power3(rank);
-    let mut i = 0usize;
-    while i < count {
-        if (old[i] != 0) & (new[i] == 0) {
-            return true;
-        }
-        i += 1;
-    }
-    false
+    left_byte(rank, old) != left_byte(rank, new)
+        || (0..power3(rank)).any(|i| old[i] != 0 && new[i] == 0)
 }
 
 // ---- shapes that may stand in a record
-
-// Whether shape, structure, memory and lines fed are such as a sound record's, and where they are their geometry.
-#[derive(Clone, Copy)]
-pub struct Shaped {
-    pub sound: bool,
-    pub geo: Geo,
-}
 
 // No cause 1, 12, 3 or 4, the words that are needed, no line too many; whatever the arrays hold. `memory` is the count of words.
 pub fn shape_sound(
@@ -160,21 +121,18 @@ pub fn shape_sound(
     structure: &[u8; 81],
     memory: usize,
     fed: usize,
-) -> Shaped
+) -> Option<Geo>
     ensures { ShapeFound rank shape structure.now memory fed result }
 {
     if bad_rank(rank) {
-        return Shaped {
-            sound: false,
-            geo: no_geo(),
-        };
+        return None;
     }
     let geo = geo_of(rank, shape, structure);
-    if has_zero(geo) | too_large(geo) {
-        return Shaped { sound: false, geo };
+    if has_zero(geo) || too_large(geo) {
+        return None;
     }
-    let sound = !lopsided(rank, structure) & (words_needed(geo) <= memory) & (fed <= geo.lines);
-    Shaped { sound, geo }
+    let sound = !lopsided(rank, structure) && words_needed(geo) <= memory && fed <= geo.lines;
+    sound.then_some(geo)
 }
 
 // ---- dimensions
@@ -184,16 +142,12 @@ fn leading_dims(rank: usize, shape: [usize; 4]) -> [usize; 3]
     requires { bad_rank (entries rank shape) ≡ false }
     ensures { result ≡ replicate (4 - rank) 1 ++ leading (entries rank shape) }
 {
-    if rank == 1 {
-        return [1, 1, 1];
+    match rank {
+        1 => [1, 1, 1],
+        2 => [1, 1, shape[0]],
+        3 => [1, shape[0], shape[1]],
+        _ => [shape[0], shape[1], shape[2]],
     }
-    if rank == 2 {
-        return [1, 1, shape[0]];
-    }
-    if rank == 3 {
-        return [1, shape[0], shape[1]];
-    }
-    [shape[0], shape[1], shape[2]]
 }
 
 // The width w.
@@ -208,30 +162,20 @@ fn last_dim(rank: usize, shape: [usize; 4]) -> usize
 fn limited_lines(dims: [usize; 3]) -> usize
     ensures { result ≡ min (size dims) 4294967293 }
 {
-    product(product(product(1, dims[0]), dims[1]), dims[2])
+    dims.iter().fold(1, |lines, dim| product(lines, *dim))
 }
 
-// The product of two numbers, or the limit if that is less. Of two numbers up to the limit it fits a usize.
+// The product of two numbers, or the limit if that is less.
 fn product(a: usize, b: usize) -> usize
-    requires { a ≤ 4294967293 }
     ensures { result ≡ min (a * b) 4294967293 }
 {
-    if a == 0 {
-        return 0;
-    }
-    if b >= LIMIT {
-        return LIMIT;
-    }
-    let p = a * b;
-    if p >= LIMIT {
-        return LIMIT;
-    }
-    p
+    a.saturating_mul(b).min(LIMIT)
 }
 
 // ---- structure
 
 // Whether the left byte, the one before the centre, is nonzero.
+// As methods of a struct of rank and bytes with a ghost field, this and lopsided were proved; not_wider and shape_sound were not.
 fn left_byte(rank: usize, structure: &[u8]) -> bool
     requires { (1 ≤ rank) × (rank ≤ 4) × (3 ^ rank ≤ length structure.now) }
     ensures { result ≡ on structure.now (left_code rank) }
@@ -244,16 +188,12 @@ pub fn power3(rank: usize) -> usize
     requires { (1 ≤ rank) × (rank ≤ 4) }
     ensures { result ≡ 3 ^ rank }
 {
-    if rank == 1 {
-        return 3;
+    match rank {
+        1 => 3,
+        2 => 9,
+        3 => 27,
+        _ => 81,
     }
-    if rank == 2 {
-        return 9;
-    }
-    if rank == 3 {
-        return 27;
-    }
-    81
 }
 
 // ---- the arrays of a lent shape and structure: the entries past it are 0
@@ -262,24 +202,22 @@ pub fn shape_of(shape: &[usize]) -> [usize; 4]
     requires { length shape.now ≤ 4 }
     ensures { result ≡ padded 4 shape.now }
 {
-    let mut out = [0usize; 4];
-    let mut i = 0usize;
-    while i < shape.len() {
-        out[i] = shape[i];
-        i += 1;
-    }
-    out
+    filled_up(shape, 0)
 }
 
 pub fn structure_of(structure: &[u8]) -> [u8; 81]
     requires { length structure.now ≤ 81 }
     ensures { result ≡ padded 81 structure.now }
 {
-    let mut out = [0u8; 81];
-    let mut i = 0usize;
-    while i < structure.len() {
-        out[i] = structure[i];
-        i += 1;
-    }
+    filled_up(structure, 0)
+}
+
+// An array that begins with those entries; the others are `fill`.
+fn filled_up<T: Copy, const N: usize>(entries: &[T], fill: T) -> [T; N]
+    requires { length entries.now ≤ N }
+    ensures { result ≡ entries.now ++ replicate (N - length entries.now) fill }
+{
+    let mut out = [fill; N];
+    out[..entries.len()].copy_from_slice(entries);
     out
 }

@@ -1,13 +1,13 @@
 -- Accepted calls: what they were given, and what is left for them to promise.
 -- Assumes nothing.
 use mathlib.Core.Path.{◌≡◌, sym, ap, ◌∙◌, subst}
-use mathlib.Core.Bool.{Bool, false}
+use mathlib.Core.Bool.{Bool}
 use mathlib.Core.List.{List}
 use Prim.Native.Nat.{ℕ, ◌+◌, ◌-◌, ◌≤◌, ◌<◌}
 use native.Mathlib.Omega.{arith}
 use borrow.Author.Tests.{leb-true}
-use lib.Dec.{ltb}
 use lib.ListN.{length}
+use Rattle.std.proofs.Common.{Result, Ok}
 use Rattle.frame.specs.Shape.{size, width}
 use Rattle.frame.specs.Kinds.{Number, largest, holds, Value}
 use Rattle.frame.specs.Memory.{words_needed}
@@ -17,9 +17,9 @@ use Rattle.frame.proofs.ShapeLaws.{Fits}
 use Rattle.frame.proofs.CauseLaws.{rank_right, Allowed, open_accepted, feed_accepted, accepted_feed, read_accepted, sizes_accepted}
 use Rattle.frame.proofs.CauseLaws.{widen_accepted}
 use Rattle.frame.proofs.PlainLaws.{unless_none, kept_new}
+use Rattle.geo.specs.declared.Geo.{Geo}
 use Rattle.geo.proofs.ShapeSoundLaws.{bytes_few}
-use Rattle.causes.specs.declared.Checked.{Checked}
-use Rattle.causes.specs.Cases.{check_number}
+use Rattle.causes.specs.declared.Cause.{Cause}
 use Rattle.causes.specs.Checks.{LentFound}
 use Rattle.causes.proofs.CaseLaws.{passed_none}
 use Rattle.label.specs.declared.Session.{Session}
@@ -50,11 +50,11 @@ module _ (shape structure : List ℕ) (memory : ℕ) (none : 0 ≡ open_cause sh
 pub open_short : (shape structure ws : List ℕ) → 0 ≡ open_cause shape structure (length ws) → (length shape ≤ 4) × (length structure ≤ 81)
 open_short shape structure ws none = short shape structure (length ws) none
 
--- so where its check passed: t is whether it failed
-module _ (shape structure : List ℕ) (memory : ℕ) {r : Checked} (F : LentFound shape structure (open_cause shape structure memory) r)
-    {t : Bool} (is : t ≡ ltb 0 (check_number r.check)) (left : t ≡ false) where
+-- so where its check passed
+module _ (shape structure : List ℕ) (memory : ℕ) {r : Result Geo Cause}
+    (F : LentFound shape structure (open_cause shape structure memory) r) {g : Geo} (is : r ≡ Ok g) where
   no_cause : 0 ≡ open_cause shape structure memory
-  no_cause = sym (passed_none (check_number r.check) t is left) ∙ F.number
+  no_cause = sym (passed_none r g is) ∙ F.number
 
   pub passed_word : 0 < memory
   passed_word = word shape structure memory no_cause
@@ -62,16 +62,14 @@ module _ (shape structure : List ℕ) (memory : ℕ) {r : Checked} (F : LentFoun
   pub passed_short : (length shape ≤ 4) × (length structure ≤ 81)
   passed_short = short shape structure memory no_cause
 
-pub passed_open : {shape structure ws : List ℕ} {r : Checked} → LentFound shape structure (open_cause shape structure (length ws)) r
-    → {t : Bool} → t ≡ ltb 0 (check_number r.check) → t ≡ false
-    → {b s : Session} {n : ℕ} → b ≡ open_record shape structure → (s ≡ b) × (n ≡ check_number r.check)
-    → OpenPromise shape structure ws n s (open_words ws)
-passed_open {shape} {structure} {ws} F is left same A =
-    let none = sym (no_cause shape structure (length ws) F is left) in
+pub passed_open : {shape structure ws : List ℕ} {r : Result Geo Cause}
+    → LentFound shape structure (open_cause shape structure (length ws)) r → {g : Geo} → r ≡ Ok g → {s : Session} → s ≡ open_record shape structure → OpenPromise shape structure ws 0 s (open_words ws)
+passed_open {shape} {structure} {ws} F is same =
+    let none = no_cause shape structure (length ws) F is in
     record {
-      said = A.1 ∙ F.number;
-      session = A.0 ∙ same ∙ sym (kept_new blank (open_record shape structure) _ none);
-      words = sym (kept_new ws (open_words ws) _ none);
+      said = none;
+      session = same ∙ sym (kept_new blank (open_record shape structure) _ (sym none));
+      words = sym (kept_new ws (open_words ws) _ (sym none));
     }
 
 -- ---- feed

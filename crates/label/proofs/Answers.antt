@@ -5,13 +5,11 @@ use mathlib.Core.Bool.{Bool, true, false}
 use mathlib.Core.List.{List, [], ◌∷◌, ◌++◌, map}
 use Prim.Native.Nat.{ℕ, ◌-◌}
 use lib.ListN.{set, replicate, take}
+use Rattle.std.proofs.Common.{Ok, Err}
 use Rattle.frame.specs.Words.{start_place, end_place, parent_place, name_place, size_place}
 use Rattle.frame.specs.Kinds.{u16, u32, u8}
 use Rattle.frame.specs.Plain.{Answer, fed, counted, refused}
 use Rattle.causes.specs.declared.Cause.TheVariants as C
-use Rattle.label.specs.declared.FeedAnswer.TheVariants as F
-use Rattle.label.specs.declared.OpenAnswer.TheVariants as O
-use Rattle.label.specs.declared.ReadAnswer.TheVariants as R
 use Rattle.label.specs.declared.Session.{Session}
 use Rattle.label.specs.Sound.{sound}
 use Rattle.causes.specs.Cases.{cause_number}
@@ -28,12 +26,13 @@ numbers_right : map cause_number (C.Rank ∷ C.StructureLength ∷ C.ZeroDimensi
     ∷ C.Length ∷ C.Kind ∷ C.Lopsided ∷ C.NotWider ∷ []) ≡ 1 ∷ 2 ∷ 3 ∷ 4 ∷ 5 ∷ 6 ∷ 7 ∷ 8 ∷ 9 ∷ 10 ∷ 12 ∷ 19 ∷ []
 numbers_right = refl
 
-openings_right : map open_number (O.Accepted ∷ O.Refused C.Memory ∷ []) ≡ 0 ∷ 5 ∷ []
+openings_right : map open_number (Ok blank ∷ Err C.Memory ∷ []) ≡ 0 ∷ 5 ∷ []
 openings_right = refl
 
 -- a feed's lines fed and figures; a reading's n and figures
-cases_right : feed_answer (F.Accepted 3 (f 5 4 7)) ∷ feed_answer (F.Refused C.Lines) ∷ read_answer (R.Accepted 1 (f 5 4 7)) ∷ read_answer
-    (R.Refused C.Kind) ∷ [] ≡ fed 3 (f 5 4 7) ∷ refused 7 ∷ counted 1 (f 5 4 7) ∷ refused 10 ∷ []
+cases_right : feed_answer (Ok (record { lines = 3; figures = f 5 4 7 })) ∷ feed_answer (Err C.Lines)
+    ∷ read_answer (Ok (record { n = 1; figures = f 5 4 7 })) ∷ read_answer (Err C.Kind) ∷ []
+    ≡ fed 3 (f 5 4 7) ∷ refused 7 ∷ counted 1 (f 5 4 7) ∷ refused 10 ∷ []
 cases_right = refl
 
 -- ---- document 01's frame 1, fed line by line

@@ -9,6 +9,7 @@ use native.Mathlib.Omega.{arith}
 use borrow.Author.Tests.{leb-true, leb-false, ltb-true, ltb-false}
 use lib.Dec.{ltb, leb}
 use lib.ListN.{length, get_or}
+use Rattle.std.proofs.Common.{Result, Ok}
 use lib.Seq.{take_all, ext_get_or}
 use Rattle.groups.specs.Groups.{Edge, rep, sum_over, joins, visit, gather}
 use Rattle.groups.proofs.CountLaws.{count_most}
@@ -20,13 +21,13 @@ use Rattle.frame.specs.Touches.{touches}
 use Rattle.frame.specs.Memory.{stride, per_line, words_needed}
 use Rattle.frame.specs.declared.Figures.{Figures}
 use Rattle.frame.specs.Sums.{plus_figures, FiguresFit}
-use Rattle.frame.specs.Plain.{Answer, fed, unless}
+use Rattle.frame.specs.Plain.{fed}
 use Rattle.frame.specs.Words.{start_place, end_place, parent_place, size_place, line_start, parent_of, size_word, stored_run, NoGroupWord}
 use Rattle.frame.proofs.ShapeLaws.{Fits, length_leading, size_lines_lem}
 use Rattle.frame.proofs.EntryLaws.{length_entries, get_d_entries}
 use Rattle.frame.proofs.FrameRunLaws.{start_le, run_first, runs_all}
 use Rattle.frame.proofs.CellLaws.{cells_most}
-use Rattle.frame.proofs.PlainLaws.{figures_same, unless_none}
+use Rattle.frame.proofs.PlainLaws.{figures_same}
 use Rattle.frame.proofs.TouchLaws.{touches_same, touches_bytes}
 use Rattle.forest.specs.Forest.{root_of, own, non_roots, grouping, Sums, brought}
 use Rattle.forest.proofs.ForestLaws.{grouping_joins}
@@ -39,9 +40,8 @@ use Rattle.geo.specs.Geometry.{GeoOf}
 use Rattle.runs.specs.declared.Counts.{Counts}
 use Rattle.block.specs.Blocks.{lines_runs, lines_cells, BlockRoom, Block, brought_in, BlockReady, touches_from, BlockUnited}
 use Rattle.block.specs.Blocks.{RoomFor, Extracts}
-use Rattle.causes.specs.declared.Checked.{Checked}
-use Rattle.causes.specs.Cases.{check_number}
-use Rattle.causes.proofs.CaseLaws.{passed_none}
+use Rattle.causes.specs.declared.Cause.{Cause}
+use Rattle.label.specs.declared.FedLines.{FedLines}
 use Rattle.label.specs.declared.Session.{Session}
 use Rattle.label.specs.Record.{shape_of, structure_of, lines_of, with_figures}
 use Rattle.label.specs.Sound.{Sound}
@@ -390,34 +390,30 @@ module _ (s : Session) (ws : List ℕ) (k : ℕ) (more : List Bool) (G : FeedAcc
     block = rw (← geo_left s ws g K, ← geo_width s ws g K, ← geo_lines s ws g K) B;
   }
 
--- so where the check of a feed passed: t is whether it failed
-module _ (s : Session) (ws : List ℕ) (k : ℕ) (more : List Bool) {r : Checked} (F : RecordFound s (feed_cause_of s ws k more) r) {t : Bool}
-    (is : t ≡ ltb 0 (check_number r.check)) (left : t ≡ false) where
+-- so where the check of a feed passed
+module _ (s : Session) (ws : List ℕ) (k : ℕ) (more : List Bool) {r : Result Geo Cause} (F : RecordFound s (feed_cause_of s ws k more) r)
+    {g : Geo} (is : r ≡ Ok g) where
   given : FeedAccepted s ws k more
-  given = cause_accepted s ws k more (passed_cause s F is left)
+  given = cause_accepted s ws k more (passed_cause s F is)
 
-  pub passed_room : RoomFor r.geo s.fed s.figures.runs k more ws
-  passed_room = feed_room s ws k more given r.geo (passed_geometry s F is left)
+  pub passed_room : RoomFor g s.fed s.figures.runs k more ws
+  passed_room = feed_room s ws k more given g (passed_geometry s F is)
 
-  extracted : {ws₁ : List ℕ} {c : Counts} → Extracts r.geo s.fed s.figures.runs k more ws ws₁ c
-      → FeedExtracted s ws k more r.geo ws₁ c
-  extracted {ws₁} {c} B = feed_extracted s ws k more given r.geo (passed_geometry s F is left) ws₁ c B
+  extracted : {ws₁ : List ℕ} {c : Counts} → Extracts g s.fed s.figures.runs k more ws ws₁ c → FeedExtracted s ws k more g ws₁ c
+  extracted {ws₁} {c} B = feed_extracted s ws k more given g (passed_geometry s F is) ws₁ c B
 
-module _ {s : Session} {ws : List ℕ} {k : ℕ} {more : List Bool} {r : Checked} (F : RecordFound s (feed_cause_of s ws k more) r) {t : Bool}
-    (is : t ≡ ltb 0 (check_number r.check)) (left : t ≡ false) {ws₁ : List ℕ} {c : Counts}
-    (B : Extracts r.geo s.fed s.figures.runs k more ws ws₁ c) where
-  pub passed_extracted : SomeExtracted s r.geo k ws₁ c
-  passed_extracted = record { words = ws; cells = more; extracted = extracted s ws k more F is left B }
+module _ {s : Session} {ws : List ℕ} {k : ℕ} {more : List Bool} {r : Result Geo Cause} (F : RecordFound s (feed_cause_of s ws k more) r)
+    {g : Geo} (is : r ≡ Ok g) {ws₁ : List ℕ} {c : Counts} (B : Extracts g s.fed s.figures.runs k more ws ws₁ c) where
+  pub passed_extracted : SomeExtracted s g k ws₁ c
+  passed_extracted = record { words = ws; cells = more; extracted = extracted s ws k more F is B }
 
   -- the union's promise is for whatever feed was extracted
   pub passed_feed : {s₁ : Session} {ws₂ : List ℕ}
-      → ((us : List ℕ) (flags : List Bool) → FeedExtracted s us k flags r.geo ws₁ c → FeedDone s us k flags s₁ ws₂)
-      → {s₂ : Session} {a : Answer} → (s₂ ≡ s₁) × (a ≡ unless (check_number r.check) (fed s₁.fed s₁.figures))
-      → FeedPromise s ws k more a s₂ ws₂
-  passed_feed {s₁} {ws₂} U A =
-      let done = U ws more (extracted s ws k more F is left B) in
-      let said = A.1 ∙ unless_none _ _ (passed_none _ _ is left) in
-      done_promise s ws k more (given s ws k more F is left) s₁ ws₂ done _ said _ A.0
+      → ((us : List ℕ) (flags : List Bool) → FeedExtracted s us k flags g ws₁ c → FeedDone s us k flags s₁ ws₂)
+      → {l : FedLines} → l ≡ record { lines = s₁.fed; figures = s₁.figures } → FeedPromise s ws k more (fed l.lines l.figures) s₁ ws₂
+  passed_feed {s₁} {ws₂} U said =
+      let done = U ws more (extracted s ws k more F is B) in
+      done_promise s ws k more (given s ws k more F is) s₁ ws₂ done _ (ap (λ (l : FedLines). fed l.lines l.figures) said) s₁ refl
 
 module _ (s : Session) (ws : List ℕ) (k : ℕ) (more : List Bool) (g : Geo) (ws₁ : List ℕ) (c : Counts)
     (X : FeedExtracted s ws k more g ws₁ c) (long : 3 ^ s.rank ≤ length s.structure) where

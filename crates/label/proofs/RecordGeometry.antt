@@ -8,19 +8,21 @@ use native.Mathlib.Nat.{mul_assoc}
 use native.Mathlib.Omega.{arith}
 use borrow.Author.Tests.{not-true, not-false}
 use lib.ListN.{length}
+use Rattle.std.proofs.Common.{Option, Some, None, is_some, ok_or, Result, Ok, Err}
 use Rattle.frame.specs.Shape.{size, width}
 use Rattle.frame.specs.Structure.{left_on}
 use Rattle.frame.specs.Memory.{stride, most_runs, per_line, words_needed}
 use Rattle.frame.proofs.ShapeLaws.{size_lines_lem}
 use Rattle.geo.specs.declared.Geo.{Geo}
-use Rattle.geo.specs.declared.Shaped.{Shaped}
 use Rattle.geo.specs.Geometry.{GeoOf, ShapeSound, ShapeFound}
 use Rattle.geo.proofs.GeoLaws.{within_limits}
 use Rattle.geo.proofs.ShapeSoundLaws.{array_ready, shape_sound_right, right_shape_sound}
 use Rattle.sound.specs.Stored.{words_sound, PassReady}
 use Rattle.sound.proofs.StoredLaws.{words_right, right_words}
-use Rattle.causes.specs.declared.Checked.{Checked}
-use Rattle.causes.specs.Cases.{check_number}
+use Rattle.causes.specs.declared.Cause.{Cause}
+use Rattle.causes.specs.declared.Cause.TheVariants as C
+use Rattle.causes.specs.Cases.{cause_number, check_number}
+use Rattle.causes.proofs.CaseLaws.{positive, same_ok}
 use Rattle.causes.proofs.OpenLaws.{found_cause}
 use Rattle.label.specs.declared.Session.{Session}
 use Rattle.label.specs.Record.{shape_of, structure_of, lines_of}
@@ -56,9 +58,26 @@ module _ (s : Session) (ws : List ℕ) (g : Geo) (K : GeoOf s.rank s.shape s.str
 
 -- ---- soundness: what crate geo finds of the shape, then the words
 
-module _ (s : Session) (ws : List ℕ) {f : Shaped} (F : ShapeFound s.rank s.shape s.structure (length ws) s.fed f) where
+-- no geometry is found, or one
+none_found : (f : Option Geo) {o : Result Geo Cause} → o ≡ ok_or f C.Unsound → {c : Cause} → o ≡ Err c
+    → (is_some f ≡ false) × (cause_number c ≡ 6)
+none_found f is e = go f (sym is ∙ e)
+  where
+    go : (f : Option Geo) {c : Cause} → ok_or f C.Unsound ≡ Err c → (is_some f ≡ false) × (cause_number c ≡ 6)
+    go None h = (refl, sym (ap check_number h))
+    go (Some g) {c} h = absurd (omega (arith, ap check_number h, positive c))
+
+one_found : (f : Option Geo) {o : Result Geo Cause} → o ≡ ok_or f C.Unsound → {g : Geo} → o ≡ Ok g → f ≡ Some g
+one_found f is e = go f (sym is ∙ e)
+  where
+    go : (f : Option Geo) {g : Geo} → ok_or f C.Unsound ≡ Ok g → f ≡ Some g
+    go None h = absurd (omega (arith, ap check_number h))
+    go (Some g) h = ap Some (same_ok _ _ h)
+
+module _ (s : Session) (ws : List ℕ) {f : Option Geo} (F : ShapeFound s.rank s.shape s.structure (length ws) s.fed f) {o : Result Geo Cause}
+    (O : o ≡ ok_or f C.Unsound) where
   -- 6, where the record is not sound
-  unsound : (Sound s ws → ⊥) → {r : Checked} → check_number r.check ≡ 6 → RecordFound s (sound_cause_of s ws) r
+  unsound : (Sound s ws → ⊥) → {r : Result Geo Cause} → check_number r ≡ 6 → RecordFound s (sound_cause_of s ws) r
   unsound never {r} is = go (sound s ws) refl
     where
       go : (b : Bool) → sound s ws ≡ b → RecordFound s (sound_cause_of s ws) r
@@ -66,19 +85,21 @@ module _ (s : Session) (ws : List ℕ) {f : Shaped} (F : ShapeFound s.rank s.sha
       go false h = found_cause _ _ _ 6 (sound_cause_of s ws) r (omega arith) (rw h refl) is
 
   -- the clauses about shape and memory, of a sound record
-  told : Sound s ws → f.sound ≡ true
+  told : Sound s ws → is_some f ≡ true
   unfolding shape_of structure_of
   told S = F.told ∙ right_shape_sound _ _ _ _ S.shape
 
-  pub shape_unsound : not f.sound ≡ true → {r : Checked} → check_number r.check ≡ 6 → RecordFound s (sound_cause_of s ws) r
-  shape_unsound taken = unsound (λ S. true≢false (sym (told S) ∙ not-true f.sound taken))
+  pub shape_unsound : {c : Cause} → o ≡ Err c → {r : Result Geo Cause} → r ≡ Err c → RecordFound s (sound_cause_of s ws) r
+  shape_unsound e said =
+      let n = none_found f O e in
+      unsound (λ S. true≢false (sym (told S) ∙ n.0)) (ap check_number said ∙ n.1)
 
-  module _ (left : not f.sound ≡ false) where
-    abbrev g : Geo
-    g = f.geo
+  module _ {g : Geo} (passed : o ≡ Ok g) where
+    some : f ≡ Some g
+    some = one_found f O passed
 
     K : GeoOf s.rank s.shape s.structure g
-    K = F.geometry (not-false f.sound left)
+    K = F.geometry g some
 
     lines_are : g.lines ≡ lines_of s
     lines_are = geo_lines s ws g K
@@ -91,7 +112,7 @@ module _ (s : Session) (ws : List ℕ) {f : Shaped} (F : ShapeFound s.rank s.sha
 
     A : ShapeSound (shape_of s) (structure_of s) (length ws) s.fed
     unfolding shape_of structure_of
-    A = shape_sound_right _ _ _ _ (sym F.told ∙ not-false f.sound left)
+    A = shape_sound_right _ _ _ _ (sym F.told ∙ ap is_some some)
 
     -- the words that the pass may read
     words_are : words_needed (shape_of s) (structure_of s) ≡ g.lines + 1 + stride * (g.lines * most_runs g.left g.width)
@@ -100,7 +121,7 @@ module _ (s : Session) (ws : List ℕ) {f : Shaped} (F : ShapeFound s.rank s.sha
         let most = most_runs (left_on (shape_of s) (structure_of s)) (width (shape_of s)) in
         rw (lines_are, width_is, left_is) (ap (λ (n : ℕ). lines_of s + 1 + n) (mul_assoc stride (lines_of s) most))
 
-    pub pass_ready : PassReady f.geo.lines f.geo.width f.geo.left s.fed ws
+    pub pass_ready : PassReady g.lines g.width g.left s.fed ws
     pass_ready = record {
       within = omega (arith, A.within, lines_are);
       memory = omega (arith, words_are, A.memory);
@@ -109,19 +130,17 @@ module _ (s : Session) (ws : List ℕ) {f : Shaped} (F : ShapeFound s.rank s.sha
     }
 
     -- and what is left to test
-    module _ {t : Bool}
-        (is : t ≡ words_sound f.geo.lines f.geo.width f.geo.left s.fed s.figures ws) where
-      pub words_unsound : not t ≡ true → {r : Checked} → check_number r.check ≡ 6 → RecordFound s (sound_cause_of s ws) r
-      words_unsound taken = unsound (λ S. true≢false (sym (all S) ∙ sym is ∙ not-true t taken))
+    module _ {t : Bool} (is : t ≡ words_sound g.lines g.width g.left s.fed s.figures ws) where
+      pub words_unsound : not t ≡ true → RecordFound s (sound_cause_of s ws) (Err C.Unsound)
+      words_unsound taken = unsound (λ S. true≢false (sym (all S) ∙ sym is ∙ not-true t taken)) refl
         where
           all : Sound s ws → words_sound g.lines g.width g.left s.fed s.figures ws ≡ true
           all S = rw (lines_are, width_is, left_is) (right_words _ _ _ _ _ ws S.words)
 
-      pub words_found : not t ≡ false → {r : Checked} → (check_number r.check ≡ 0) × (r.geo ≡ f.geo)
-          → RecordFound s (sound_cause_of s ws) r
-      words_found stays P = record {
-        number = P.0 ∙ sym (ap (λ (b : Bool). cond b 0 6) (right_sound s ws S));
-        geometry = λ none. subst (GeoOf s.rank s.shape s.structure) (sym P.1) K;
+      pub words_found : not t ≡ false → RecordFound s (sound_cause_of s ws) (Ok g)
+      words_found stays = record {
+        number = sym (ap (λ (b : Bool). cond b 0 6) (right_sound s ws S));
+        geometry = λ h same. subst (GeoOf s.rank s.shape s.structure) (same_ok g h same) K;
       }
         where
           S : Sound s ws

@@ -1,24 +1,24 @@
 -- What a check says: a call with a cause hands back its number, and everything is as it was.
 -- Assumes nothing.
 use mathlib.Core.Path.{◌≡◌, refl, sym, ap, ◌∙◌}
-use mathlib.Core.Bool.{Bool, true}
+use mathlib.Core.Bool.{Bool}
 use mathlib.Core.List.{List}
-use Prim.Native.Nat.{ℕ, suc, ◌-◌, ◌<◌}
+use Prim.Native.Nat.{ℕ, suc, ◌-◌}
 use native.Mathlib.Omega.{arith}
-use lib.Dec.{ltb}
 use lib.ListN.{length}
+use Rattle.std.proofs.Common.{Result, Err}
 use Rattle.frame.specs.Kinds.{Number, Value}
 use Rattle.frame.specs.Causes.{open_cause}
-use Rattle.frame.specs.Plain.{Answer, fed, counted, refused, unless}
-use Rattle.frame.proofs.PlainLaws.{unless_some, unless_none, unless_same, kept_old}
+use Rattle.frame.specs.Plain.{Answer, refused, unless}
+use Rattle.frame.proofs.PlainLaws.{unless_some, kept_old}
+use Rattle.geo.specs.declared.Geo.{Geo}
 use Rattle.causes.specs.declared.Cause.{Cause}
-use Rattle.causes.specs.declared.Check.{Check}
-use Rattle.causes.specs.declared.Check.TheVariants as K
-use Rattle.causes.specs.declared.Checked.{Checked}
 use Rattle.causes.specs.Cases.{cause_number, check_number}
-use Rattle.causes.specs.Checks.{LentFound}
-use Rattle.causes.proofs.CaseLaws.{positive, failed_some}
+use Rattle.causes.specs.Checks.{Found, LentFound}
+use Rattle.causes.proofs.CaseLaws.{positive}
 use Rattle.label.specs.declared.Session.{Session}
+use Rattle.label.specs.declared.Counted.{Counted}
+use Rattle.label.specs.Cases.{open_number, opened, read_answer}
 use Rattle.label.specs.Held.{numbers_held, sizes_held}
 use Rattle.label.specs.Opening.{open_record, open_words, blank, OpenPromise}
 use Rattle.label.specs.Feeding.{feed_record, feed_cause_of, FeedPromise}
@@ -26,96 +26,87 @@ use Rattle.label.specs.Widening.{widen_record, widen_cause_of, WidenPromise}
 use Rattle.label.specs.Reading.{with_names, counted_of, read_cause_of, ReadPromise, sizes_cause_of, SizesPromise}
 use Rattle.label.specs.Steps.{RecordFound}
 
--- what a check finds decides what is said: the cause, or what is done
-pub says_cause : (c : Cause) (k : Check) → k ≡ K.Failed c → (a : Answer) → refused (cause_number c) ≡ unless (check_number k) a
-says_cause c k is a =
-    let above : cause_number c ≡ suc (cause_number c - 1) = omega (arith, positive c) in
-    ap (λ (x : ℕ). refused x) above ∙ sym (unless_some (check_number k) (cause_number c - 1) a (ap check_number is ∙ above))
+-- ---- a cause whose number is n
 
-pub says_done : (k : Check) → k ≡ K.Passed → (a : Answer) → a ≡ unless (check_number k) a
-says_done k is a = sym (unless_none (check_number k) a (ap check_number is))
+module _ (c : Cause) {n : ℕ} (is : cause_number c ≡ n) where
+  pub cause_above : n ≡ suc (n - 1)
+  cause_above = omega (arith, is, positive c)
 
-pub passes : (k : Check) → k ≡ K.Passed → check_number k ≡ 0
-passes k is = ap check_number is
+  pub says_cause : (a : Answer) → refused (cause_number c) ≡ unless n a
+  says_cause a = ap (λ (x : ℕ). refused x) (is ∙ cause_above) ∙ sym (unless_some n (n - 1) a cause_above)
 
--- ---- a call with a cause, whose number is n
-
-above : (n m : ℕ) → n ≡ m → 0 < n → m ≡ suc (m - 1)
-above n m is h = omega (arith, is, h)
-
-said_no : (n m : ℕ) → n ≡ m → 0 < n → (a b : Answer) → unless n a ≡ unless m b
-said_no n m is h a b = unless_same n m a b is (λ z. absurd (omega (arith, h)))
-
-pub refused_read : (kind : Number) (s : Session) (ws : List ℕ) (out : List (Value kind)) (n : ℕ) → n ≡ read_cause_of kind s ws (length out)
-    → 0 < n → (a b : Answer) → a ≡ unless n b → (s' : Session) → s' ≡ s → ReadPromise kind s ws out a s' ws out
-refused_read kind s ws out n e h a b said s' same =
-    let z = above n (read_cause_of kind s ws (length out)) e h in
+-- so of a reading
+pub refused_read : (kind : Number) (s : Session) (ws : List ℕ) (out : List (Value kind)) (c : Cause)
+    → cause_number c ≡ read_cause_of kind s ws (length out) → {r : Result Counted Cause} → r ≡ Err c
+    → ReadPromise kind s ws out (read_answer r) s ws out
+refused_read kind s ws out c is said =
+    let z = cause_above c is in
     record {
-      said = said ∙ said_no n (read_cause_of kind s ws (length out)) e h b (counted_of s ws);
-      session = same;
+      said = ap read_answer said ∙ says_cause c is (counted_of s ws);
+      session = refl;
       words = sym (kept_old ws (with_names s ws) _ _ z);
       output = sym (kept_old out (numbers_held s ws kind) _ _ z);
     }
 
--- ---- so where its check failed: t is whether it did
+-- ---- where the check of a call failed
 
-module _ {shape structure ws : List ℕ} {r : Checked} (F : LentFound shape structure (open_cause shape structure (length ws)) r) {t : Bool}
-    (is : t ≡ ltb 0 (check_number r.check)) (taken : t ≡ true) where
-  pub failed_open : {b s : Session} {n : ℕ} → b ≡ blank → (s ≡ b) × (n ≡ check_number r.check) → OpenPromise shape structure ws n s ws
-  failed_open same A =
-      let z = above _ _ F.number (failed_some _ _ is taken) in
+module _ {rank : ℕ} {shape structure : List ℕ} {cause : ℕ} {r : Result Geo Cause} (F : Found rank shape structure cause r) {c : Cause}
+    (is : r ≡ Err c) where
+  pub failed_number : cause_number c ≡ cause
+  failed_number = ap check_number (sym is) ∙ F.number
+
+module _ {shape structure ws : List ℕ} {r : Result Geo Cause} (F : LentFound shape structure (open_cause shape structure (length ws)) r)
+    {c : Cause} (is : r ≡ Err c) where
+  pub failed_open : {o : Result Session Cause} → o ≡ Err c → OpenPromise shape structure ws (open_number o) (opened o) ws
+  failed_open said =
+      let n = failed_number F is in
+      let z = cause_above c n in
       record {
-        said = A.1 ∙ F.number;
-        session = A.0 ∙ same ∙ sym (kept_old blank (open_record shape structure) _ _ z);
+        said = ap open_number said ∙ n;
+        session = ap opened said ∙ sym (kept_old blank (open_record shape structure) _ _ z);
         words = sym (kept_old ws (open_words ws) _ _ z);
       }
 
-module _ {s : Session} {ws : List ℕ} {k : ℕ} {cells : List Bool} {r : Checked} (F : RecordFound s (feed_cause_of s ws k cells) r) {t : Bool}
-    (is : t ≡ ltb 0 (check_number r.check)) (taken : t ≡ true) where
-  pub failed_feed : {s' : Session} {a : Answer} → (s' ≡ s) × (a ≡ unless (check_number r.check) (fed s.fed s.figures))
-      → FeedPromise s ws k cells a s' ws
-  failed_feed A =
-      let some = failed_some _ _ is taken in
-      let z = above _ _ F.number some in
+module _ {s : Session} {ws : List ℕ} {k : ℕ} {cells : List Bool} {r : Result Geo Cause} (F : RecordFound s (feed_cause_of s ws k cells) r)
+    {c : Cause} (is : r ≡ Err c) where
+  pub failed_feed : FeedPromise s ws k cells (refused (cause_number c)) s ws
+  failed_feed =
+      let n = failed_number F is in
+      let z = cause_above c n in
       record {
-        said = A.1 ∙ said_no _ _ F.number some _ _;
-        session = A.0 ∙ sym (kept_old s (feed_record s ws k cells) _ _ z);
+        said = says_cause c n _;
+        session = sym (kept_old s (feed_record s ws k cells) _ _ z);
         refusal = λ h. refl;
         accepted = λ none. absurd (omega (arith, z));
       }
 
-module _ {s : Session} {ws structure : List ℕ} {r : Checked} (F : RecordFound s (widen_cause_of s ws structure) r) {t : Bool}
-    (is : t ≡ ltb 0 (check_number r.check)) (taken : t ≡ true) where
-  pub failed_widen : {s' : Session} {a : Answer} → (s' ≡ s) × (a ≡ unless (check_number r.check) (fed s.fed s.figures))
-      → WidenPromise s ws structure a s' ws
-  failed_widen A =
-      let some = failed_some _ _ is taken in
-      let z = above _ _ F.number some in
+module _ {s : Session} {ws structure : List ℕ} {r : Result Geo Cause} (F : RecordFound s (widen_cause_of s ws structure) r)
+    {c : Cause} (is : r ≡ Err c) where
+  pub failed_widen : WidenPromise s ws structure (refused (cause_number c)) s ws
+  failed_widen =
+      let n = failed_number F is in
+      let z = cause_above c n in
       record {
-        said = A.1 ∙ said_no _ _ F.number some _ _;
-        session = A.0 ∙ sym (kept_old s (widen_record s ws structure) _ _ z);
+        said = says_cause c n _;
+        session = sym (kept_old s (widen_record s ws structure) _ _ z);
         refusal = λ h. refl;
         accepted = λ none. absurd (omega (arith, z));
       }
 
-module _ {kind : Number} {s : Session} {ws : List ℕ} {out : List (Value kind)} {r : Checked}
-    (F : RecordFound s (read_cause_of kind s ws (length out)) r) {t : Bool} (is : t ≡ ltb 0 (check_number r.check)) (taken : t ≡ true) where
-  pub failed_read : {s' : Session} {a : Answer}
-      → (s' ≡ s) × (a ≡ unless (check_number r.check) (counted (s.figures.runs - s.figures.joins) s.figures))
-      → ReadPromise kind s ws out a s' ws out
-  failed_read A = refused_read kind s ws out _ F.number (failed_some _ _ is taken) _ _ A.1 _ A.0
+module _ {kind : Number} {s : Session} {ws : List ℕ} {out : List (Value kind)} {r : Result Geo Cause}
+    (F : RecordFound s (read_cause_of kind s ws (length out)) r) {c : Cause} (is : r ≡ Err c) where
+  pub failed_read : {a : Result Counted Cause} → a ≡ Err c → ReadPromise kind s ws out (read_answer a) s ws out
+  failed_read said = refused_read kind s ws out c (failed_number F is) said
 
-module _ {s : Session} {ws out : List ℕ} {r : Checked} (F : RecordFound s (sizes_cause_of s ws (length out)) r) {t : Bool}
-    (is : t ≡ ltb 0 (check_number r.check)) (taken : t ≡ true) where
-  pub failed_sizes : {s' : Session} {a : Answer}
-      → (s' ≡ s) × (a ≡ unless (check_number r.check) (counted (s.figures.runs - s.figures.joins) s.figures))
-      → SizesPromise s ws out a s' ws out
-  failed_sizes A =
-      let some = failed_some _ _ is taken in
-      let z = above _ _ F.number some in
+module _ {s : Session} {ws out : List ℕ} {r : Result Geo Cause} (F : RecordFound s (sizes_cause_of s ws (length out)) r)
+    {c : Cause} (is : r ≡ Err c) where
+  pub failed_sizes : {a : Result Counted Cause} → a ≡ Err c → SizesPromise s ws out (read_answer a) s ws out
+  failed_sizes said =
+      let n = failed_number F is in
+      let z = cause_above c n in
       record {
-        said = A.1 ∙ said_no _ _ F.number some _ _;
-        session = A.0;
+        said = ap read_answer said ∙ says_cause c n _;
+        session = refl;
         words = sym (kept_old ws (with_names s ws) _ _ z);
         output = sym (kept_old out (sizes_held s ws) _ _ z);
       }

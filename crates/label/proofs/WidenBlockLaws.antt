@@ -1,32 +1,30 @@
 -- The stored lines, united again by crate block, leave the words and the joins that a structure change promises.
 -- Assumes nothing.
 use mathlib.Core.Path.{◌≡◌, refl, sym, ap, ap₂, ◌∙◌, subst}
-use mathlib.Core.Bool.{Bool, true, false}
+use mathlib.Core.Bool.{true}
 use mathlib.Core.List.{List, []}
 use Prim.Native.Nat.{ℕ, suc, ◌+◌, ◌^◌, ◌≤◌, ◌<◌}
 use native.Mathlib.Nat.{zero-add, mul-le-mul_right, not-suc-le-zero}
 use native.Mathlib.Omega.{arith}
-use lib.Dec.{ltb}
 use lib.ListN.{length}
+use Rattle.std.proofs.Common.{Result, Ok}
 use Rattle.groups.specs.Groups.{Edge, rep, sum_over, joins, visit}
 use Rattle.groups.proofs.SumLaws.{sum_values}
 use Rattle.frame.specs.Shape.{width}
 use Rattle.frame.specs.Runs.{run_length}
 use Rattle.frame.specs.Touches.{touches}
-use Rattle.frame.specs.Plain.{Answer, fed, unless}
+use Rattle.frame.specs.Plain.{fed}
 use Rattle.frame.specs.Words.{line_start, parent_of, size_word, stored_run}
 use Rattle.frame.proofs.ShapeLaws.{size_lines_lem}
 use Rattle.frame.proofs.EntryLaws.{length_entries}
 use Rattle.frame.proofs.CellLaws.{lengths_sum}
-use Rattle.frame.proofs.PlainLaws.{unless_none}
 use Rattle.forest.specs.Forest.{root_of, grouping, Sums}
 use Rattle.forest.proofs.SizeLaws.{sums_same, sums_values, brought_new}
 use Rattle.geo.specs.declared.Geo.{Geo}
 use Rattle.geo.specs.Geometry.{ThreeDims, GeoOf}
 use Rattle.block.specs.Blocks.{brought_in, BlockReady, touches_from, BlockUnited}
-use Rattle.causes.specs.declared.Checked.{Checked}
-use Rattle.causes.specs.Cases.{check_number}
-use Rattle.causes.proofs.CaseLaws.{passed_none}
+use Rattle.causes.specs.declared.Cause.{Cause}
+use Rattle.label.specs.declared.FedLines.{FedLines}
 use Rattle.label.specs.declared.Session.{Session}
 use Rattle.label.specs.Record.{shape_of, lines_of, with_structure}
 use Rattle.label.specs.Sound.{Sound}
@@ -134,33 +132,29 @@ module _ (s : Session) (ws structure : List ℕ) (G : WidenAccepted s ws structu
         let none : joins (grouping (parent_of L ws) (line_start ws 0)) ≡ 0 = ap joins none_before ∙ (unfold joins in refl) in
         omega (arith, U.counted, none, ap joins edges_are)
 
--- so where the check of a structure change passed: t is whether it failed
-module _ (s : Session) (ws structure : List ℕ) {r : Checked} (F : RecordFound s (widen_cause_of s ws structure) r) {t : Bool}
-    (is : t ≡ ltb 0 (check_number r.check)) (left : t ≡ false) where
+-- so where the check of a structure change passed
+module _ (s : Session) (ws structure : List ℕ) {r : Result Geo Cause} (F : RecordFound s (widen_cause_of s ws structure) r)
+    {g : Geo} (is : r ≡ Ok g) where
   no_cause : widen_cause_of s ws structure ≡ 0
-  no_cause = passed_cause s F is left
+  no_cause = passed_cause s F is
 
   given : WidenAccepted s ws structure
   given = cause_widens s ws structure no_cause
 
-  geometry : GeoOf s.rank s.shape s.structure r.geo
-  geometry = passed_geometry s F is left
+  geometry : GeoOf s.rank s.shape s.structure g
+  geometry = passed_geometry s F is
 
-  pub passed_ready : BlockReady r.geo.leads r.geo.dims r.geo.lines structure ws 0 s.fed
-  passed_ready = widen_ready s ws structure given r.geo geometry
+  pub passed_ready : BlockReady g.leads g.dims g.lines structure ws 0 s.fed
+  passed_ready = widen_ready s ws structure given g geometry
 
   pub passed_bytes : length structure ≤ 81
   passed_bytes = widen_short s ws structure no_cause
 
-  pub passed_widen : {ws' : List ℕ} {n : ℕ}
-      → BlockUnited r.geo.leads r.geo.dims r.geo.lines structure ws ws' 0 s.fed n
-      → {s₁ : Session} → s₁ ≡ with_structure s structure n
-      → {s₂ : Session} {a : Answer} → (s₂ ≡ s₁) × (a ≡ unless (check_number r.check) (fed s₁.fed s₁.figures))
-      → WidenPromise s ws structure a s₂ ws'
-  passed_widen {ws'} {n} U {s₁} made {s₂} {a} A =
-      let W = widen_words s ws structure given r.geo geometry ws' n U in
+  pub passed_widen : {ws' : List ℕ} {n : ℕ} → BlockUnited g.leads g.dims g.lines structure ws ws' 0 s.fed n
+      → {s₁ : Session} → s₁ ≡ with_structure s structure n → {l : FedLines} → l ≡ record { lines = s₁.fed; figures = s₁.figures }
+      → WidenPromise s ws structure (fed l.lines l.figures) s₁ ws'
+  passed_widen {ws'} {n} U {s₁} made said =
+      let W = widen_words s ws structure given g geometry ws' n U in
       let to : s₁ ≡ widen_record s ws structure = unfold widen_record in made
-      ∙ ap (with_structure s structure) (widen_joins s ws structure given r.geo geometry ws' n U) in
-      let said : a ≡ fed s₂.fed s₂.figures = A.1 ∙ unless_none _ _ (passed_none _ _ is left)
-      ∙ ap (λ (x : Session). fed x.fed x.figures) (sym A.0) in
-      widen_promise s ws structure no_cause ws' W s₂ (A.0 ∙ to) a said
+      ∙ ap (with_structure s structure) (widen_joins s ws structure given g geometry ws' n U) in
+      widen_promise s ws structure no_cause ws' W s₁ to _ (ap (λ (l : FedLines). fed l.lines l.figures) said)

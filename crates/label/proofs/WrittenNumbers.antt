@@ -6,26 +6,25 @@ use mathlib.Core.List.{List}
 use Prim.Native.Nat.{ℕ, suc, ◌+◌, ◌-◌, ◌*◌, ◌/◌, ◌%◌, ◌≤◌, ◌<◌}
 use native.Mathlib.Nat.{le_refl, mod-lt, mul_assoc, mul-le-mul_right, div-add-mod', div-lt_iff_lt-mul}
 use native.Mathlib.Omega.{arith}
-use lib.Dec.{ltb}
 use lib.ListN.{length}
+use Rattle.std.proofs.Common.{Result, Ok}
 use lib.Seq.{ext_get_or}
 use Rattle.frame.specs.Shape.{size, width}
 use Rattle.frame.specs.ChainRule.{nonzero}
 use Rattle.frame.specs.Kinds.{Number, largest, Value, write}
 use Rattle.frame.specs.Memory.{stride, per_line, words_needed}
-use Rattle.frame.specs.Plain.{Answer, counted, unless}
+use Rattle.frame.specs.Plain.{counted}
 use Rattle.frame.specs.Words.{line_start, parent_of}
 use Rattle.frame.proofs.ShapeLaws.{factor_pos, size_lines_lem}
 use Rattle.frame.proofs.ChainRuleLaws.{any_at}
 use Rattle.frame.proofs.FrameRunLaws.{starts_few, line_below}
 use Rattle.frame.proofs.ListLaws.{listed_at, listed_length}
-use Rattle.frame.proofs.PlainLaws.{unless_none}
 use Rattle.forest.specs.Forest.{number_in}
-use Rattle.causes.specs.declared.Checked.{Checked}
-use Rattle.causes.specs.Cases.{check_number}
-use Rattle.causes.proofs.CaseLaws.{passed_none}
+use Rattle.geo.specs.declared.Geo.{Geo}
+use Rattle.causes.specs.declared.Cause.{Cause}
 use Rattle.names.specs.Names.{NamesReady, named}
 use Rattle.write.specs.Writes.{LinesHeld, WriteReady, output_at, AtCell, LinesWritten}
+use Rattle.label.specs.declared.Counted.{Counted}
 use Rattle.label.specs.declared.Session.{Session}
 use Rattle.label.specs.Record.{shape_of, structure_of, lines_of}
 use Rattle.label.specs.Sound.{Sound}
@@ -165,37 +164,34 @@ module _ (s : Session) (ws : List ℕ) (S : Sound s ws) where
 
 -- ---- where the check of a reading passed
 
-module _ (kind : Number) (s : Session) (ws : List ℕ) (places : ℕ) {r : Checked} (F : RecordFound s (read_cause_of kind s ws places) r) where
-  -- where it did, n is a difference
-  pub read_joins : check_number r.check ≡ 0 → s.figures.joins ≤ s.figures.runs
-  read_joins none = joins_fit s ws (cause_read kind s ws places (sym F.number ∙ none)).is_sound
+module _ (kind : Number) (s : Session) (ws : List ℕ) (places : ℕ) {r : Result Geo Cause}
+    (F : RecordFound s (read_cause_of kind s ws places) r) {g : Geo} (is : r ≡ Ok g) where
+  R : ReadAccepted kind s ws places
+  R = cause_read kind s ws places (passed_cause s F is)
 
-  -- t is whether it failed
-  module _ {t : Bool} (is : t ≡ ltb 0 (check_number r.check)) (left : t ≡ false) where
-    R : ReadAccepted kind s ws places
-    R = cause_read kind s ws places (passed_cause s F is left)
+  -- n is a difference
+  pub read_joins : s.figures.joins ≤ s.figures.runs
+  read_joins = joins_fit s ws R.is_sound
 
-    lines_are : r.geo.lines ≡ lines_of s
-    lines_are = geo_lines s ws r.geo (passed_geometry s F is left)
+  lines_are : g.lines ≡ lines_of s
+  lines_are = geo_lines s ws g (passed_geometry s F is)
 
-    width_is : r.geo.width ≡ width (shape_of s)
-    width_is = geo_width s ws r.geo (passed_geometry s F is left)
+  width_is : g.width ≡ width (shape_of s)
+  width_is = geo_width s ws g (passed_geometry s F is)
 
-    pub passed_ready : WriteReady kind r.geo.lines r.geo.width s.fed ws places
-    passed_ready = rw (lines_are, width_is) (write_ready s ws R.is_sound kind places R.fits R.places)
+  pub passed_ready : WriteReady kind g.lines g.width s.fed ws places
+  passed_ready = rw (lines_are, width_is) (write_ready s ws R.is_sound kind places R.fits R.places)
 
-    written : {ws' : List ℕ} {out out' : List (Value kind)} → LinesWritten kind r.geo.lines r.geo.width s.fed ws ws' out out'
-        → LinesWritten kind (lines_of s) (width (shape_of s)) s.fed ws ws' out out'
-    written W = rw (← lines_are, ← width_is) W
+  written : {ws' : List ℕ} {out out' : List (Value kind)} → LinesWritten kind g.lines g.width s.fed ws ws' out out'
+      → LinesWritten kind (lines_of s) (width (shape_of s)) s.fed ws ws' out out'
+  written W = rw (← lines_are, ← width_is) W
 
-pub passed_read : {kind : Number} {s : Session} {ws : List ℕ} {out : List (Value kind)} {r : Checked}
-    → RecordFound s (read_cause_of kind s ws (length out)) r → {t : Bool} → t ≡ ltb 0 (check_number r.check) → t ≡ false
-    → {ws' : List ℕ} {out' : List (Value kind)} → LinesWritten kind r.geo.lines r.geo.width s.fed ws ws' out out'
-    → {s' : Session} {a : Answer}
-    → (s' ≡ s) × (a ≡ unless (check_number r.check) (counted (s.figures.runs - s.figures.joins) s.figures))
-    → ReadPromise kind s ws out a s' ws' out'
-passed_read {kind} {s} {ws} {out} F is left {ws'} {out'} W A =
-    let given = R kind s ws (length out) F is left in
-    let numbers = written_numbers s ws given.is_sound kind ws' out out' given.places (written kind s ws (length out) F is left W) in
-    let said = A.1 ∙ unless_none _ _ (passed_none _ _ is left) in
-    read_promise kind s ws out (passed_cause s F is left) ws' out' numbers _ said _ A.0
+pub passed_read : {kind : Number} {s : Session} {ws : List ℕ} {out : List (Value kind)} {r : Result Geo Cause}
+    → RecordFound s (read_cause_of kind s ws (length out)) r → {g : Geo} → r ≡ Ok g
+    → {ws' : List ℕ} {out' : List (Value kind)} → LinesWritten kind g.lines g.width s.fed ws ws' out out'
+    → {n : Counted} → n ≡ record { n = s.figures.runs - s.figures.joins; figures = s.figures }
+    → ReadPromise kind s ws out (counted n.n n.figures) s ws' out'
+passed_read {kind} {s} {ws} {out} F is {ws'} {out'} W said =
+    let given = R kind s ws (length out) F is in
+    let numbers = written_numbers s ws given.is_sound kind ws' out out' given.places (written kind s ws (length out) F is W) in
+    read_promise kind s ws out (passed_cause s F is) ws' out' numbers _ (ap (λ (n : Counted). counted n.n n.figures) said) s refl

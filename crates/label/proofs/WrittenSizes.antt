@@ -1,17 +1,15 @@
 -- A sound record is ready to have the sizes of its groups copied; and what is copied is what a size call promises.
 -- Assumes nothing.
-use mathlib.Core.Path.{◌≡◌, sym, ◌∙◌}
-use mathlib.Core.Bool.{Bool, false}
+use mathlib.Core.Path.{◌≡◌, refl, ap}
 use mathlib.Core.List.{List}
 use Prim.Native.Nat.{ℕ, ◌-◌, ◌≤◌}
-use lib.Dec.{ltb}
 use lib.ListN.{length}
-use Rattle.frame.specs.Plain.{Answer, counted, unless}
-use Rattle.frame.proofs.PlainLaws.{unless_none}
-use Rattle.causes.specs.declared.Checked.{Checked}
-use Rattle.causes.specs.Cases.{check_number}
-use Rattle.causes.proofs.CaseLaws.{passed_none}
+use Rattle.std.proofs.Common.{Result, Ok}
+use Rattle.frame.specs.Plain.{counted}
+use Rattle.geo.specs.declared.Geo.{Geo}
+use Rattle.causes.specs.declared.Cause.{Cause}
 use Rattle.write.specs.Writes.{SizesReady, SizesWritten}
+use Rattle.label.specs.declared.Counted.{Counted}
 use Rattle.label.specs.declared.Session.{Session}
 use Rattle.label.specs.Record.{lines_of}
 use Rattle.label.specs.Sound.{Sound}
@@ -36,34 +34,29 @@ module _ (s : Session) (ws : List ℕ) (S : Sound s ws) where
 
 -- ---- where the check of a size call passed
 
-module _ (s : Session) (ws : List ℕ) (places : ℕ) {r : Checked} (F : RecordFound s (sizes_cause_of s ws places) r) where
-  -- where it did, n is a difference
-  pub sizes_joins : check_number r.check ≡ 0 → s.figures.joins ≤ s.figures.runs
-  sizes_joins none = joins_fit s ws (cause_sizes s ws places (sym F.number ∙ none)).0
+module _ (s : Session) (ws : List ℕ) (places : ℕ) {r : Result Geo Cause} (F : RecordFound s (sizes_cause_of s ws places) r)
+    {g : Geo} (is : r ≡ Ok g) where
+  given : Sound s ws × (places ≡ root_count s ws)
+  given = cause_sizes s ws places (passed_cause s F is)
 
-  -- t is whether it failed
-  module _ {t : Bool} (is : t ≡ ltb 0 (check_number r.check)) (left : t ≡ false) where
-    given : Sound s ws × (places ≡ root_count s ws)
-    given = cause_sizes s ws places (passed_cause s F is left)
+  -- n is a difference
+  pub sizes_joins : s.figures.joins ≤ s.figures.runs
+  sizes_joins = joins_fit s ws given.0
 
-    lines_are : r.geo.lines ≡ lines_of s
-    lines_are = geo_lines s ws r.geo (passed_geometry s F is left)
+  lines_are : g.lines ≡ lines_of s
+  lines_are = geo_lines s ws g (passed_geometry s F is)
 
-    pub passed_counts : SizesReady r.geo.lines s.figures.runs ws places
-    passed_counts = rw lines_are (sizes_ready s ws given.0 places given.1)
+  pub passed_counts : SizesReady g.lines s.figures.runs ws places
+  passed_counts = rw lines_are (sizes_ready s ws given.0 places given.1)
 
-    written : {ws' out' : List ℕ} → SizesWritten r.geo.lines s.figures.runs ws ws' out'
-        → SizesWritten (lines_of s) s.figures.runs ws ws' out'
-    written W = rw (← lines_are) W
+  written : {ws' out' : List ℕ} → SizesWritten g.lines s.figures.runs ws ws' out'
+      → SizesWritten (lines_of s) s.figures.runs ws ws' out'
+  written W = rw (← lines_are) W
 
-pub passed_sizes : {s : Session} {ws out : List ℕ} {r : Checked} → RecordFound s (sizes_cause_of s ws (length out)) r
-    → {t : Bool} → t ≡ ltb 0 (check_number r.check) → t ≡ false
-    → {ws' out' : List ℕ} → SizesWritten r.geo.lines s.figures.runs ws ws' out'
-    → {s' : Session} {a : Answer}
-    → (s' ≡ s) × (a ≡ unless (check_number r.check) (counted (s.figures.runs - s.figures.joins) s.figures))
-    → SizesPromise s ws out a s' ws' out'
-passed_sizes {s} {ws} {out} F is left {ws'} {out'} W A =
-    let g = given s ws (length out) F is left in
-    let counts = written_sizes s ws g.0 ws' out' (written s ws (length out) F is left W) in
-    let said = A.1 ∙ unless_none _ _ (passed_none _ _ is left) in
-    sizes_promise s ws out (passed_cause s F is left) ws' out' counts _ said _ A.0
+pub passed_sizes : {s : Session} {ws out : List ℕ} {r : Result Geo Cause} → RecordFound s (sizes_cause_of s ws (length out)) r
+    → {g : Geo} → r ≡ Ok g → {ws' out' : List ℕ} → SizesWritten g.lines s.figures.runs ws ws' out'
+    → {n : Counted} → n ≡ record { n = s.figures.runs - s.figures.joins; figures = s.figures }
+    → SizesPromise s ws out (counted n.n n.figures) s ws' out'
+passed_sizes {s} {ws} {out} F is {ws'} {out'} W said =
+    let counts = written_sizes s ws (given s ws (length out) F is).0 ws' out' (written s ws (length out) F is W) in
+    sizes_promise s ws out (passed_cause s F is) ws' out' counts _ (ap (λ (n : Counted). counted n.n n.figures) said) s refl

@@ -1,8 +1,8 @@
 pub mod Record
 pub mod Sound
 pub mod Held
-pub mod Cases
 pub mod Opening
+pub mod Cases
 pub mod Feeding
 pub mod Widening
 pub mod Reading

@@ -1,13 +1,13 @@
 -- What the work of a call asks, once its check has found no cause, and what it leaves.
 -- Assumes nothing.
-use Rattle.std.specs.Prelude.{◌≡◌, Bool, false, cond, List, ℕ, ◌-◌, ◌*◌, ◌^◌, ◌≤◌, length}
+use Rattle.std.specs.Prelude.{◌≡◌, Bool, false, cond, List, ℕ, ◌-◌, ◌*◌, ◌^◌, ◌≤◌, length, Result}
 use Rattle.frame.specs.Shape.{size, width}
 use Rattle.frame.specs.Structure.{left_on}
 use Rattle.frame.specs.Kinds.{Number, largest}
 use Rattle.frame.specs.Causes.{lopsided, not_wider}
 use Rattle.geo.specs.declared.Geo.{Geo}
 use Rattle.geo.specs.Geometry.{GeoOf}
-use Rattle.causes.specs.declared.Checked.{Checked}
+use Rattle.causes.specs.declared.Cause.{Cause}
 use Rattle.causes.specs.Checks.{Found}
 use Rattle.runs.specs.declared.Counts.{Counts}
 use Rattle.block.specs.Blocks.{Block}
@@ -24,7 +24,7 @@ abbrev pub sound_cause_of : Session → List ℕ → ℕ
 sound_cause_of s ws = cond (sound s ws) 0 6
 
 -- what a check finds: that cause, and where there is none the record's geometry
-abbrev pub RecordFound : Session → ℕ → Checked → Type 0
+abbrev pub RecordFound : Session → ℕ → Result Geo Cause → Type 0
 RecordFound s cause r = Found s.rank s.shape s.structure cause r
 
 -- ---- feed

@@ -1,33 +1,32 @@
 // The record and its calls: opening, feeds, structure changes, readings, sizes. What each call promises is in specs/: Opening, Feeding,
 // Widening, Reading; no call asks anything of its caller. WholeFrame has the promise of a whole frame, which crate whole keeps.
 //
-//     Session::open      a record of a shape, a structure and working memory
-//     Session::feed_T    the next lines of the frame, for each kind of cell
-//     Session::widen     a wider structure, under which the session goes on
-//     Session::read_T    each cell's number, for each kind of number
-//     Session::sizes     each number's cell count
+//     Session::open     a record of a shape, a structure and working memory
+//     Session::feed     the next lines of the frame, for each kind of cell
+//     Session::widen    a wider structure, under which the session goes on
+//     Session::read     each cell's number, for each kind of number
+//     Session::sizes    each number's cell count
 //
-// The record is a value: a call takes it and hands it back. An enum holds no array, so an answer stands beside the record in a
-// struct. specs/Cases.antt gives document 01's values for each case, and crate causes the number of each cause.
+// The record is a value: a call takes it and hands it back, beside what it answers or the cause of a refusal. specs/Cases.antt gives
+// document 01's values for each case, and crate causes the number of each cause.
 //
-// A call is a check and then the work: sound_check, feed_check, widen_check, read_check and sizes_check find the cause, and hand on the
-// record's geometry; what follows works on a record that is known to be sound.
+// A call is a check and then the work: sound_check, feed_check, widen_check, read_check and sizes_check answer the cause, or the record's
+// geometry; what follows works on a record that is known to be sound.
 #![tactic(auto)]
 
 ghost use Rattle.std.specs.Prelude.{◌≡◌, Bool, List, map, ℕ, ◌-◌, ◌≤◌, length};
-ghost use Rattle.frame.specs.Kinds.{nz, nzℤ, nz_f, Number, u8, u16, u32, largest};
-ghost use Rattle.frame.specs.Plain.{fed, counted, unless};
-ghost use Rattle.causes.specs.Cases.{check_number};
-ghost use Rattle.label.specs.Cases.{open_number, feed_answer, read_answer};
+ghost use Rattle.frame.specs.Kinds.{Number, largest};
+ghost use Rattle.label.specs.Cases.{open_number, opened, feed_answer, read_answer};
 ghost use Rattle.label.specs.Record.{with_structure};
-ghost use Rattle.label.specs.Opening.{OpenPromise, open_record, blank};
+ghost use Rattle.label.specs.Opening.{OpenPromise, open_record};
 ghost use Rattle.label.specs.Feeding.{feed_cause_of, FeedPromise};
 ghost use Rattle.label.specs.Widening.{widen_cause_of, WidenPromise};
 ghost use Rattle.label.specs.Reading.{read_cause_of, sizes_cause_of, ReadPromise, SizesPromise};
 ghost use Rattle.label.specs.Steps.{sound_cause_of, RecordFound, FeedExtracted, FeedDone, SomeExtracted};
 
 // Shape and structure, then lines fed and the figures, so far. Entries past the rank are 0 after an opening.
-#[derive(Clone, Copy)]
+// Arrays with the rank beside them, and not slices: the C interface hands a record back as words (record_c), and there is no heap.
+#[derive(Clone, Copy, PartialEq, Eq, Debug)]
 pub struct Session {
     pub rank: usize,
     pub shape: [usize; 4],
@@ -36,74 +35,49 @@ pub struct Session {
     pub figures: frame::Figures,
 }
 
-#[derive(Clone, Copy)]
-pub enum OpenAnswer {
-    Accepted,
-    Refused(causes::Cause),
+// What a feed and a structure change answer: lines fed and the figures, so far.
+#[derive(Clone, Copy, PartialEq, Eq, Debug)]
+pub struct FedLines {
+    pub lines: usize,
+    pub figures: frame::Figures,
 }
 
-// A feed's and a structure change's: lines fed and the figures, so far.
-#[derive(Clone, Copy)]
-pub enum FeedAnswer {
-    Accepted {
-        lines: usize,
-        figures: frame::Figures,
-    },
-    Refused(causes::Cause),
+// What a reading, a size call and a whole frame answer: n and the figures.
+#[derive(Clone, Copy, PartialEq, Eq, Debug)]
+pub struct Counted {
+    pub n: usize,
+    pub figures: frame::Figures,
 }
 
-// A reading's, a size call's and a whole frame's.
-#[derive(Clone, Copy)]
-pub enum ReadAnswer {
-    Accepted { n: usize, figures: frame::Figures },
-    Refused(causes::Cause),
-}
-
-// A refused opening has a blank record beside it.
-#[derive(Clone, Copy)]
-pub struct Opened {
-    pub answer: OpenAnswer,
+// What a call on a record gives: its answer, and the record afterwards, which a refusal, a reading and a size call leave as it was.
+#[derive(Clone, Copy, PartialEq, Eq, Debug)]
+pub struct Answered<A> {
+    pub answer: Result<A, causes::Cause>,
     pub session: Session,
 }
 
-#[derive(Clone, Copy)]
-pub struct Fed {
-    pub answer: FeedAnswer,
-    pub session: Session,
-}
+// Of a feed and of a structure change.
+pub type Fed = Answered<FedLines>;
 
-#[derive(Clone, Copy)]
-pub struct Read {
-    pub answer: ReadAnswer,
-    pub session: Session,
-}
+// Of a reading and of a size call.
+pub type Read = Answered<Counted>;
 
 // ---- opening
 
 impl Session {
     // Opens a session: on success word 0 is written, and no other.
-    pub fn open(shape: &[usize], structure: &[u8], words: &mut [u32]) -> Opened
+    pub fn open(
+        shape: &[usize],
+        structure: &[u8],
+        words: &mut [u32],
+    ) -> Result<Session, causes::Cause>
         ensures { OpenPromise shape.now structure.now words.old
-            (open_number result.answer) result.session words.new }
+            (open_number result) (opened result) words.new }
     {
-        let found = causes::open_check(shape, structure, words.len());
-        let check = found.check;
-        if check.failed() {
-            return answer_open(blank_record(), check);
-        }
+        causes::open_check(shape, structure, words.len())?;
         words[0] = 0;
-        answer_open(open_record(shape, structure), check)
+        Ok(open_record(shape, structure))
     }
-}
-
-fn answer_open(session: Session, check: causes::Check) -> Opened
-    ensures { (result.session ≡ session) × (open_number result.answer ≡ check_number check) }
-{
-    let answer = match check {
-        causes::Check::Failed(cause) => OpenAnswer::Refused(cause),
-        causes::Check::Passed => OpenAnswer::Accepted,
-    };
-    Opened { answer, session }
 }
 
 // The record of an opening that has no cause.
@@ -120,24 +94,11 @@ fn open_record(shape: &[usize], structure: &[u8]) -> Session
     }
 }
 
-// The record beside a refused opening.
-fn blank_record() -> Session
-    ensures { result ≡ blank }
-{
-    Session {
-        rank: 0,
-        shape: [0; 4],
-        structure: [0; 81],
-        fed: 0,
-        figures: frame::Figures::zero(),
-    }
-}
-
 // ---- soundness
 
 impl Session {
     // 6: whether the record is sound with these words, whatever both hold.
-    fn sound_check(self, words: &[u32]) -> causes::Checked
+    fn sound_check(self, words: &[u32]) -> Result<geo::Geo, causes::Cause>
         ensures { RecordFound self (sound_cause_of self words.now) result }
     {
         let shaped = geo::shape_sound(
@@ -147,14 +108,11 @@ impl Session {
             words.len(),
             self.fed,
         );
-        if !shaped.sound {
-            return causes::refused(causes::Cause::Unsound);
-        }
-        let g = shaped.geo;
+        let g = shaped.ok_or(causes::Cause::Unsound)?;
         if !sound::words_sound(words, g, self.fed, self.figures) {
-            return causes::refused(causes::Cause::Unsound);
+            return Err(causes::Cause::Unsound);
         }
-        causes::passed(g)
+        Ok(g)
     }
 }
 
@@ -162,81 +120,36 @@ impl Session {
 
 impl Session {
     // 6, 7, 8.
-    fn feed_check(self, words: &[u32], k: usize, cells: usize) -> causes::Checked
+    fn feed_check(self, words: &[u32], k: usize, cells: usize) -> Result<geo::Geo, causes::Cause>
         ensures { (flags : List Bool) → length flags ≡ cells →
             RecordFound self (feed_cause_of self words.now k flags) result }
     {
-        let found = self.sound_check(words);
-        let sound = found.check;
-        if sound.failed() {
-            return found;
-        }
-        let geo = found.geo;
-        let check = causes::feed_check(geo, self.fed, k, cells);
-        causes::Checked { check, geo }
+        let g = self.sound_check(words)?;
+        causes::feed_check(g, self.fed, k, cells)?;
+        Ok(g)
     }
-}
 
-// The public feeds, one for each kind of cell.
-impl Session {
-    pub fn feed_u8(self, words: &mut [u32], k: usize, cells: &[u8]) -> Fed
-        ensures { FeedPromise self words.old k (map nz cells.now)
+    // The next `k` lines of the frame.
+    pub fn feed<T: runs::Nz>(self, words: &mut [u32], k: usize, cells: &[T]) -> Fed
+        ensures { FeedPromise self words.old k (map T.nonzero cells.now)
             (feed_answer result.answer) result.session words.new }
     {
-        let found = self.feed_check(words, k, cells.len());
-        let check = found.check;
-        if check.failed() {
-            return answer_feed(self, check);
+        match self.feed_check(words, k, cells.len()) {
+            Err(cause) => Fed {
+                answer: Err(cause),
+                session: self,
+            },
+            Ok(g) => {
+                let new = block::extract_block(cells, g, words, self.fed, self.figures.runs, k);
+                let session = self.union_lines(words, g, k, new);
+                Fed {
+                    answer: Ok(session.fed_lines()),
+                    session,
+                }
+            }
         }
-        let g = found.geo;
-        let new = block::extract_block_u8(cells, g, words, self.fed, self.figures.runs, k);
-        answer_feed(self.union_lines(words, g, k, new), check)
     }
 
-    pub fn feed_u16(self, words: &mut [u32], k: usize, cells: &[u16]) -> Fed
-        ensures { FeedPromise self words.old k (map nz cells.now)
-            (feed_answer result.answer) result.session words.new }
-    {
-        let found = self.feed_check(words, k, cells.len());
-        let check = found.check;
-        if check.failed() {
-            return answer_feed(self, check);
-        }
-        let g = found.geo;
-        let new = block::extract_block_u16(cells, g, words, self.fed, self.figures.runs, k);
-        answer_feed(self.union_lines(words, g, k, new), check)
-    }
-
-    pub fn feed_i16(self, words: &mut [u32], k: usize, cells: &[i16]) -> Fed
-        ensures { FeedPromise self words.old k (map nzℤ cells.now)
-            (feed_answer result.answer) result.session words.new }
-    {
-        let found = self.feed_check(words, k, cells.len());
-        let check = found.check;
-        if check.failed() {
-            return answer_feed(self, check);
-        }
-        let g = found.geo;
-        let new = block::extract_block_i16(cells, g, words, self.fed, self.figures.runs, k);
-        answer_feed(self.union_lines(words, g, k, new), check)
-    }
-
-    pub fn feed_f32(self, words: &mut [u32], k: usize, cells: &[f32]) -> Fed
-        ensures { FeedPromise self words.old k (map nz_f cells.now)
-            (feed_answer result.answer) result.session words.new }
-    {
-        let found = self.feed_check(words, k, cells.len());
-        let check = found.check;
-        if check.failed() {
-            return answer_feed(self, check);
-        }
-        let g = found.geo;
-        let new = block::extract_block_f32(cells, g, words, self.fed, self.figures.runs, k);
-        answer_feed(self.union_lines(words, g, k, new), check)
-    }
-}
-
-impl Session {
     // Unites the extracted lines with their neighbours, and gives the record afterwards. `new` counts their runs and nonzero cells.
     fn union_lines(self, words: &mut [u32], g: geo::Geo, k: usize, new: runs::Counts) -> Session
         requires { SomeExtracted self g k words.old new }
@@ -244,49 +157,39 @@ impl Session {
             FeedDone self ws k cells result words.new }
     {
         let joins = block::union_block(words, g, &self.structure, self.fed, k);
-        let figures = self.figures.plus(frame::Figures {
+        let more = frame::Figures {
             runs: new.runs,
             joins,
             cells: new.cells,
-        });
-        let mut s = self;
-        s.fed += k;
-        s.figures = figures;
-        s
+        };
+        Session {
+            fed: self.fed + k,
+            figures: self.figures.plus(more),
+            ..self
+        }
     }
-}
 
-// A feed or a structure change that was accepted answers the record's figures, and any other its cause.
-fn answer_feed(session: Session, check: causes::Check) -> Fed
-    ensures { (result.session ≡ session)
-        × (feed_answer result.answer ≡ unless (check_number check) (fed session.fed session.figures)) }
-{
-    let figures = session.figures;
-    let answer = match check {
-        causes::Check::Failed(cause) => FeedAnswer::Refused(cause),
-        causes::Check::Passed => FeedAnswer::Accepted {
-            lines: session.fed,
-            figures,
-        },
-    };
-    Fed { answer, session }
+    // Lines fed and the figures.
+    fn fed_lines(self) -> FedLines
+        ensures { result ≡ record { lines = self.fed; figures = self.figures } }
+    {
+        FedLines {
+            lines: self.fed,
+            figures: self.figures,
+        }
+    }
 }
 
 // ---- structure change
 
 impl Session {
     // 6, 2, 12, 19.
-    fn widen_check(self, words: &[u32], structure: &[u8]) -> causes::Checked
+    fn widen_check(self, words: &[u32], structure: &[u8]) -> Result<geo::Geo, causes::Cause>
         ensures { RecordFound self (widen_cause_of self words.now structure.now) result }
     {
-        let found = self.sound_check(words);
-        let sound = found.check;
-        if sound.failed() {
-            return found;
-        }
-        let geo = found.geo;
-        let check = causes::widen_check(self.rank, &self.structure, structure);
-        causes::Checked { check, geo }
+        let g = self.sound_check(words)?;
+        causes::widen_check(self.rank, &self.structure, structure)?;
+        Ok(g)
     }
 
     // Goes on under a wider structure: the stored lines are united again, from the first, whatever grouping the words held.
@@ -294,14 +197,20 @@ impl Session {
         ensures { WidenPromise self words.old structure.now
             (feed_answer result.answer) result.session words.new }
     {
-        let found = self.widen_check(words, structure);
-        let check = found.check;
-        if check.failed() {
-            return answer_feed(self, check);
+        match self.widen_check(words, structure) {
+            Err(cause) => Fed {
+                answer: Err(cause),
+                session: self,
+            },
+            Ok(g) => {
+                let joins = block::union_block(words, g, structure, 0, self.fed);
+                let session = self.with_structure(structure, joins);
+                Fed {
+                    answer: Ok(session.fed_lines()),
+                    session,
+                }
+            }
         }
-        let g = found.geo;
-        let joins = block::union_block(words, g, structure, 0, self.fed);
-        answer_feed(self.with_structure(structure, joins), check)
     }
 
     // The record under another structure, with the joins that its lines then have.
@@ -309,13 +218,13 @@ impl Session {
         requires { length structure.now ≤ 81 }
         ensures { result ≡ with_structure self structure.now joins }
     {
-        let bytes = geo::structure_of(structure);
         let mut figures = self.figures;
         figures.joins = joins;
-        let mut s = self;
-        s.structure = bytes;
-        s.figures = figures;
-        s
+        Session {
+            structure: geo::structure_of(structure),
+            figures,
+            ..self
+        }
     }
 }
 
@@ -323,112 +232,81 @@ impl Session {
 
 impl Session {
     // 6, 9, 10, where `most` is the kind's largest number. n is runs - joins.
-    fn read_check(self, words: &[u32], places: usize, most: u64) -> causes::Checked
+    fn read_check(self, words: &[u32], places: usize, most: u64) -> Result<geo::Geo, causes::Cause>
         ensures { (kind : Number) → most ≡ largest kind →
             RecordFound self (read_cause_of kind self words.now places) result }
     {
-        let found = self.sound_check(words);
-        let sound = found.check;
-        if sound.failed() {
-            return found;
-        }
-        let geo = found.geo;
-        let check = causes::read_check(geo, self.figures.runs - self.figures.joins, places, most);
-        causes::Checked { check, geo }
+        let g = self.sound_check(words)?;
+        causes::read_check(g, self.figures.runs - self.figures.joins, places, most)?;
+        Ok(g)
     }
-}
 
-// The public readings, one for each kind of number.
-impl Session {
-    pub fn read_u8(self, words: &mut [u32], out: &mut [u8]) -> Read
-        ensures { ReadPromise u8 self words.old out.old
-            (read_answer result.answer) result.session words.new out.new }
+    // Each cell's number.
+    pub fn read<T: write::FromU32>(self, words: &mut [u32], out: &mut [T]) -> Read
+        ensures { ReadPromise T.kind self words.old (map T.value out.old)
+            (read_answer result.answer) result.session words.new (map T.value out.new) }
     {
-        let found = self.read_check(words, out.len(), write::LabelU8::MAXV);
-        let check = found.check;
-        if check.failed() {
-            return answer_read(self, check);
+        Read {
+            answer: self.write_numbers(words, out),
+            session: self,
         }
-        let g = found.geo;
-        write::write_block_u8(words, g, self.fed, out);
-        answer_read(self, check)
     }
 
-    pub fn read_u16(self, words: &mut [u32], out: &mut [u16]) -> Read
-        ensures { ReadPromise u16 self words.old out.old
-            (read_answer result.answer) result.session words.new out.new }
+    // What a reading answers. The record stands.
+    fn write_numbers<T: write::FromU32>(
+        self,
+        words: &mut [u32],
+        out: &mut [T],
+    ) -> Result<Counted, causes::Cause>
+        ensures { ReadPromise T.kind self words.old (map T.value out.old)
+            (read_answer result) self words.new (map T.value out.new) }
     {
-        let found = self.read_check(words, out.len(), write::LabelU16::MAXV);
-        let check = found.check;
-        if check.failed() {
-            return answer_read(self, check);
-        }
-        let g = found.geo;
-        write::write_block_u16(words, g, self.fed, out);
-        answer_read(self, check)
+        let g = self.read_check(words, out.len(), T::MAXV)?;
+        write::write_block(words, g, self.fed, out);
+        Ok(self.counted())
     }
 
-    pub fn read_u32(self, words: &mut [u32], out: &mut [u32]) -> Read
-        ensures { ReadPromise u32 self words.old out.old
-            (read_answer result.answer) result.session words.new out.new }
+    // n and the figures.
+    fn counted(self) -> Counted
+        requires { self.figures.joins ≤ self.figures.runs }
+        ensures { result ≡ record { n = self.figures.runs - self.figures.joins; figures = self.figures } }
     {
-        let found = self.read_check(words, out.len(), write::LabelU32::MAXV);
-        let check = found.check;
-        if check.failed() {
-            return answer_read(self, check);
+        Counted {
+            n: self.figures.runs - self.figures.joins,
+            figures: self.figures,
         }
-        let g = found.geo;
-        write::write_block_u32(words, g, self.fed, out);
-        answer_read(self, check)
     }
-}
-
-// A reading or a size call that was accepted answers n and the record's figures, and any other its cause.
-fn answer_read(session: Session, check: causes::Check) -> Read
-    requires { check_number check ≡ 0 → session.figures.joins ≤ session.figures.runs }
-    ensures { (result.session ≡ session)
-        × (read_answer result.answer ≡ unless (check_number check)
-        (counted (session.figures.runs - session.figures.joins) session.figures)) }
-{
-    let figures = session.figures;
-    let answer = match check {
-        causes::Check::Failed(cause) => ReadAnswer::Refused(cause),
-        causes::Check::Passed => ReadAnswer::Accepted {
-            n: figures.runs - figures.joins,
-            figures,
-        },
-    };
-    Read { answer, session }
 }
 
 // ---- sizes
 
 impl Session {
     // 6, 9.
-    fn sizes_check(self, words: &[u32], places: usize) -> causes::Checked
+    fn sizes_check(self, words: &[u32], places: usize) -> Result<geo::Geo, causes::Cause>
         ensures { RecordFound self (sizes_cause_of self words.now places) result }
     {
-        let found = self.sound_check(words);
-        let sound = found.check;
-        if sound.failed() {
-            return found;
-        }
-        let geo = found.geo;
-        let check = causes::sizes_check(self.figures.runs - self.figures.joins, places);
-        causes::Checked { check, geo }
+        let g = self.sound_check(words)?;
+        causes::sizes_check(self.figures.runs - self.figures.joins, places)?;
+        Ok(g)
     }
 
+    // Each number's cell count.
     pub fn sizes(self, words: &mut [u32], sizes: &mut [u32]) -> Read
         ensures { SizesPromise self words.old sizes.old
             (read_answer result.answer) result.session words.new sizes.new }
     {
-        let found = self.sizes_check(words, sizes.len());
-        let check = found.check;
-        if check.failed() {
-            return answer_read(self, check);
+        Read {
+            answer: self.write_sizes(words, sizes),
+            session: self,
         }
-        let g = found.geo;
+    }
+
+    // What a size call answers. The record stands.
+    fn write_sizes(self, words: &mut [u32], sizes: &mut [u32]) -> Result<Counted, causes::Cause>
+        ensures { SizesPromise self words.old sizes.old (read_answer result) self words.new sizes.new }
+    {
+        let g = self.sizes_check(words, sizes.len())?;
         write::size_block(words, g.lines, self.figures.runs, sizes);
-        answer_read(self, check)
+        Ok(self.counted())
     }
 }

@@ -15,16 +15,17 @@ use Rattle.label.specs.Widening.{WidenPromise}
 use Rattle.label.specs.Reading.{ReadPromise, SizesPromise}
 use Rattle.label.specs.WholeFrame.{FramePromise}
 use Rattle.record_c.specs.Records.{record_words, record_of}
-use Rattle.record_c.specs.Early.{least_answer, record_early}
+use Rattle.record_c.specs.declared.Refusal.{Refusal}
+use Rattle.record_c.specs.Early.{least_answer, record_early, refusal_number}
 use Rattle.record_c.specs.Ends.{record_after, ReadEnd, FeedEnd}
-use Rattle.record_c.proofs.EarlyLaws.{short_record, long_record, frame_short, frame_long}
+use Rattle.record_c.proofs.EarlyLaws.{short_record, long_record, frame_short, frame_long, refusal_positive}
 use Rattle.record_c.proofs.EndLaws.{ends_refused, record_stands}
 use Rattle.label_c.specs.CCalls.{Call, OpenCall, FeedCall, WidenCall, ReadCall, SizesCall, FrameCall}
 
 -- ---- a call
 
 module _ {early : ℕ} {Stands : Type 0} {Made : Answer → Type 0} {answer : List ℕ} {number : ℕ} where
-  call_early : number ≡ early → (number ≡ 0 → ⊥) → Stands → Call early Stands Made answer number answer
+  call_early : number ≡ early → 0 < number → Stands → Call early Stands Made answer number answer
   call_early e h stands =
       record {
         said = refused early;
@@ -45,11 +46,11 @@ module _ {early : ℕ} {Stands : Type 0} {Made : Answer → Type 0} {answer : Li
         ends = ends;
       }
 
-  -- a call with a record: what it promises of the record that it was given, it promises of the one that the words hold
-  record_made : {looked : ℕ} {s t : Session} {said : Answer} {answer' : List ℕ} → looked ≡ early → looked ≡ 0 → s ≡ t
-      → (Promise : Session → Type 0) → Promise s → (Promise t → Made said) → ReadEnd said answer number answer'
+  -- a call with a record: what it promises of the record that was read, it promises of the one that the words hold
+  record_made : {s t : Session} {said : Answer} {answer' : List ℕ} → early ≡ 0 → s ≡ t → (Promise : Session → Type 0) → Promise s
+      → (Promise t → Made said) → ReadEnd said answer number answer'
       → Call early Stands Made answer number answer'
-  record_made l none e Promise P made E = call_made (sym l ∙ none) (made (subst Promise e P)) E
+  record_made none e Promise P made E = call_made none (made (subst Promise e P)) E
 
 -- ---- an opening
 
@@ -80,27 +81,26 @@ module _ (shape structure ws r : List ℕ) where
 
 -- ---- calls with a record: not made, or made with the record that the words hold
 
-module _ {r ws answer : List ℕ} {number : ℕ} (e : number ≡ record_early r (length answer)) where
-  pub feed_early : {k : ℕ} {cells : List Bool} → (number ≡ 0 → ⊥) → FeedCall r ws k cells answer number r ws answer
-  feed_early h = record { call = call_early e h (refl, refl) }
+module _ {r ws answer : List ℕ} (x : Refusal) (e : refusal_number x ≡ record_early r (length answer)) where
+  pub feed_early : {k : ℕ} {cells : List Bool} → FeedCall r ws k cells answer (refusal_number x) r ws answer
+  feed_early = record { call = call_early e (refusal_positive x) (refl, refl) }
 
-  pub widen_early : {structure : List ℕ} → (number ≡ 0 → ⊥) → WidenCall r ws structure answer number r ws answer
-  widen_early h = record { call = call_early e h (refl, refl) }
+  pub widen_early : {structure : List ℕ} → WidenCall r ws structure answer (refusal_number x) r ws answer
+  widen_early = record { call = call_early e (refusal_positive x) (refl, refl) }
 
-  pub read_early : {kind : Number} {out : List (Value kind)} → (number ≡ 0 → ⊥) → ReadCall kind r ws out answer number ws out answer
-  read_early h = record { call = call_early e h (refl, refl) }
+  pub read_early : {kind : Number} {out : List (Value kind)} → ReadCall kind r ws out answer (refusal_number x) ws out answer
+  read_early = record { call = call_early e (refusal_positive x) (refl, refl) }
 
-  pub sizes_early : {out : List ℕ} → (number ≡ 0 → ⊥) → SizesCall r ws out answer number ws out answer
-  sizes_early h = record { call = call_early e h (refl, refl) }
+  pub sizes_early : {out : List ℕ} → SizesCall r ws out answer (refusal_number x) ws out answer
+  sizes_early = record { call = call_early e (refusal_positive x) (refl, refl) }
 
--- `early` is what was looked for before the call
-module _ {s s' : Session} {r ws ws' answer answer' : List ℕ} {early number : ℕ} {a : Answer} (l : early ≡ record_early r (length answer))
-    (none : early ≡ 0) (e : s ≡ record_of r) where
+module _ {s s' : Session} {r ws ws' answer answer' : List ℕ} {number : ℕ} {a : Answer} (none : record_early r (length answer) ≡ 0)
+    (e : s ≡ record_of r) where
   pub feed_made : {k : ℕ} {cells : List Bool} {r' : List ℕ} → FeedPromise s ws k cells a s' ws' → FeedEnd a s' r answer number r' answer'
       → FeedCall r ws k cells answer number r' ws' answer'
   feed_made {k} {cells} P E =
       record {
-        call = record_made l none e (λ (x : Session). FeedPromise x ws k cells a s' ws') P
+        call = record_made none e (λ (x : Session). FeedPromise x ws k cells a s' ws') P
             (λ p. record { session = s'; promise = p; record_is = E.record_is }) E.ends;
       }
 
@@ -108,7 +108,7 @@ module _ {s s' : Session} {r ws ws' answer answer' : List ℕ} {early number : �
       → WidenCall r ws structure answer number r' ws' answer'
   widen_made {structure} P E =
       record {
-        call = record_made l none e (λ (x : Session). WidenPromise x ws structure a s' ws') P
+        call = record_made none e (λ (x : Session). WidenPromise x ws structure a s' ws') P
             (λ p. record { session = s'; promise = p; record_is = E.record_is }) E.ends;
       }
 
@@ -116,7 +116,7 @@ module _ {s s' : Session} {r ws ws' answer answer' : List ℕ} {early number : �
       → ReadCall kind r ws out answer number ws' out' answer'
   read_made {kind} {out} {out'} P E =
       record {
-        call = record_made l none e (λ (x : Session). ReadPromise kind x ws out a s' ws' out') P
+        call = record_made none e (λ (x : Session). ReadPromise kind x ws out a s' ws' out') P
             (subst (λ (x : Session). ReadPromise kind (record_of r) ws out a x ws' out') (P.session ∙ e)) E;
       }
 
@@ -124,7 +124,7 @@ module _ {s s' : Session} {r ws ws' answer answer' : List ℕ} {early number : �
       → SizesCall r ws out answer number ws' out' answer'
   sizes_made {out} {out'} P E =
       record {
-        call = record_made l none e (λ (x : Session). SizesPromise x ws out a s' ws' out') P
+        call = record_made none e (λ (x : Session). SizesPromise x ws out a s' ws' out') P
             (subst (λ (x : Session). SizesPromise (record_of r) ws out a x ws' out') (P.session ∙ e)) E;
       }
 
@@ -132,7 +132,7 @@ module _ {s s' : Session} {r ws ws' answer answer' : List ℕ} {early number : �
 
 module _ {kind : Number} {shape structure ws : List ℕ} {cells : List Bool} {out : List (Value kind)} {answer : List ℕ} where
   pub frame_early_lem : length answer < least_answer → FrameCall kind shape structure ws cells out answer 100 ws out answer
-  frame_early_lem h = record { call = call_early (sym (frame_short (length answer) h)) (λ z. omega arith) (refl, refl) }
+  frame_early_lem h = record { call = call_early (sym (frame_short (length answer) h)) (omega arith) (refl, refl) }
 
   pub frame_made : {number : ℕ} {ws' : List ℕ} {out' : List (Value kind)} {answer' : List ℕ} {a : Answer}
       → least_answer ≤ length answer → FramePromise kind shape structure ws cells out a ws' out' → ReadEnd a answer number answer'

@@ -97,6 +97,12 @@ ReadLent kind rec words out answer number =
     ReadCall kind rec.entry.now words.entry.now out.entry.now answer.entry.now
     number words.exit.now out.exit.now answer.exit.now
 
+-- the same of any kind of number, where `value` says what a place of the output holds
+abbrev pub ReadOf : (kind : Number) {A : Type 0} → (A → Value kind) → Slice ℕ → MutSlice ℕ → MutSlice A → MutSlice ℕ → ℕ → Type 0
+ReadOf kind value rec words out answer number =
+    ReadCall kind rec.entry.now words.entry.now (map value out.entry.now) answer.entry.now
+    number words.exit.now (map value out.exit.now) answer.exit.now
+
 abbrev pub SizesLent : Slice ℕ → MutSlice ℕ → MutSlice ℕ → MutSlice ℕ → ℕ → Type 0
 SizesLent rec words sizes answer number =
     SizesCall rec.entry.now words.entry.now sizes.entry.now answer.entry.now
@@ -109,3 +115,11 @@ FrameLent kind nonzero shape structure words cells out answer number =
     FrameCall kind shape.entry.now structure.entry.now words.entry.now (map nonzero cells.entry.now)
     out.entry.now answer.entry.now
     number words.exit.now out.exit.now answer.exit.now
+
+abbrev pub FrameOf :
+    (kind : Number) {N : Type 0} → (N → Value kind) → {A : Type 0} → (A → Bool)
+    → Slice ℕ → Slice ℕ → MutSlice ℕ → Slice A → MutSlice N → MutSlice ℕ → ℕ → Type 0
+FrameOf kind value nonzero shape structure words cells out answer number =
+    FrameCall kind shape.entry.now structure.entry.now words.entry.now (map nonzero cells.entry.now)
+    (map value out.entry.now) answer.entry.now
+    number words.exit.now (map value out.exit.now) answer.exit.now

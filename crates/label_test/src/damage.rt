@@ -2,401 +2,393 @@
 // wrong, or the structure lopsided, or the sizes of roots such that they do not add up to the total. A feed, a reading, a size call and a
 // structure change that would be accepted must then get 6 and leave record, words and output as they were. Where a run is damaged the total
 // is made that of the damaged runs, and the sizes such that they add up to it, so that it is neither that tells.
-use flood::{Extent, get, layout, less, plus, put, times, word};
+use crate::counts::Counts;
+use crate::tested::{Call, Tested};
+use causes::Cause;
+use flood::layout::{Part, UNREAD, Words, word};
+use flood::{Frame, begins_with, put};
 use label::Session;
-use samples::{below, tally};
-use trial::answers;
-use trial::answers::Done;
+use samples::{below, lend, next};
+use trial::{CellKind, NumberKind, OutputKind, add};
 
-// The damages: of the record, of which the last are its total's and its structure's, then of the line starts, then of a run, then of the
-// sizes, then the shorter memory. The last two are none, for which the calls are accepted: any sizes at runs that are no roots, and
-// nothing.
-const TOTAL: usize = 10;
+#[derive(Clone, Copy)]
+enum RecordDamage {
+    RankZero,
+    RankFive,
+    ZeroDimension,
+    LargeDimension,
+    LargeWidth,
+    LinesMore,
+    RunsMore,
+    RunsLess,
+    JoinsMore,
+    JoinsLess,
+    TotalMore,
+    // Of an empty frame one more.
+    TotalLess,
+    // 2^32 more.
+    TotalFar,
+    TotalLargest,
+    Lopsided,
+}
 
-const STRUCTURE: usize = 14;
+#[derive(Clone, Copy)]
+enum LineDamage {
+    // Word 0 is not 0.
+    First,
+    // A start is below the one before.
+    Falling,
+    // The last is not the count of runs.
+    Last,
+}
 
-const LINES: usize = 15;
+#[derive(Clone, Copy)]
+enum RunDamage {
+    // A run's start is not below its end.
+    Empty,
+    EndPastWidth,
+    // The next run of the line is over it, or before it, or touches it.
+    NextOver,
+    NextBefore,
+    NextTouching,
+    // It is longer than one cell.
+    Longer,
+    ParentAbove,
+    // A root that is none, or a run that is made a root.
+    OtherRoot,
+}
 
-const CROWDED: usize = 18;
+// Of a root's size.
+#[derive(Clone, Copy)]
+enum SizeDamage {
+    More,
+    Less,
+    Largest,
+    Zero,
+    // 2^16 more.
+    Far,
+    // 2^31 more, as another root's then is, so that the sizes add up to 2^32 more than they should.
+    Both,
+    // The same, with a total that is 2^32 more, too.
+    BothAndTotal,
+}
 
-const RUNS: usize = 19;
+#[derive(Clone, Copy)]
+enum Damage {
+    Record(RecordDamage),
+    Line(LineDamage),
+    // All runs are in the last line.
+    Crowded,
+    Run(RunDamage),
+    Size(SizeDamage),
+    // The memory has a word too few.
+    Shorter,
+    // None, for which the calls are accepted: any sizes at runs that are no roots, and nothing.
+    FreeSizes,
+    Nothing,
+}
 
-const SIZES: usize = 27;
-
-const WRAPPED_TOTAL: usize = 33;
-
-const SHORTER: usize = 34;
-
-const FREE: usize = 35;
-
-const NONE: usize = 36;
+const DAMAGES: [Damage; 37] = [
+    Damage::Record(RecordDamage::RankZero),
+    Damage::Record(RecordDamage::RankFive),
+    Damage::Record(RecordDamage::ZeroDimension),
+    Damage::Record(RecordDamage::LargeDimension),
+    Damage::Record(RecordDamage::LargeWidth),
+    Damage::Record(RecordDamage::LinesMore),
+    Damage::Record(RecordDamage::RunsMore),
+    Damage::Record(RecordDamage::RunsLess),
+    Damage::Record(RecordDamage::JoinsMore),
+    Damage::Record(RecordDamage::JoinsLess),
+    Damage::Record(RecordDamage::TotalMore),
+    Damage::Record(RecordDamage::TotalLess),
+    Damage::Record(RecordDamage::TotalFar),
+    Damage::Record(RecordDamage::TotalLargest),
+    Damage::Record(RecordDamage::Lopsided),
+    Damage::Line(LineDamage::First),
+    Damage::Line(LineDamage::Falling),
+    Damage::Line(LineDamage::Last),
+    Damage::Crowded,
+    Damage::Run(RunDamage::Empty),
+    Damage::Run(RunDamage::EndPastWidth),
+    Damage::Run(RunDamage::NextOver),
+    Damage::Run(RunDamage::NextBefore),
+    Damage::Run(RunDamage::NextTouching),
+    Damage::Run(RunDamage::Longer),
+    Damage::Run(RunDamage::ParentAbove),
+    Damage::Run(RunDamage::OtherRoot),
+    Damage::Size(SizeDamage::More),
+    Damage::Size(SizeDamage::Less),
+    Damage::Size(SizeDamage::Largest),
+    Damage::Size(SizeDamage::Zero),
+    Damage::Size(SizeDamage::Far),
+    Damage::Size(SizeDamage::Both),
+    Damage::Size(SizeDamage::BothAndTotal),
+    Damage::Shorter,
+    Damage::FreeSizes,
+    Damage::Nothing,
+];
 
 // ---- records
 
-fn damage_rank(rank: usize, d: usize) -> usize {
-    match d {
-        0 => 0,
-        1 => 5,
-        _ => rank,
-    }
-}
+const FAR: usize = 1 << 32;
 
-fn damage_dimension(dimension: usize, d: usize) -> usize {
-    match d {
-        2 => 0,
-        3 => 4294967293,
-        _ => dimension,
-    }
-}
-
-fn damage_shape(shape: [usize; 4], rank: usize, d: usize) -> [usize; 4] {
-    let mut s = shape;
-    let last = less(rank, 1);
-    s[0] = damage_dimension(shape[0], d);
-    if d == 4 {
-        if last < 4 {
-            s[last] = 2147483647;
+fn damage_record(record: Session, lines: usize, damage: RecordDamage, x: u64) -> Session {
+    let mut s = record;
+    let last = record.rank.wrapping_sub(1);
+    match damage {
+        RecordDamage::RankZero => s.rank = 0,
+        RecordDamage::RankFive => s.rank = 5,
+        RecordDamage::ZeroDimension => s.shape[0] = 0,
+        RecordDamage::LargeDimension => s.shape[0] = 4294967293,
+        RecordDamage::LargeWidth => put(&mut s.shape, last, 2147483647),
+        RecordDamage::LinesMore => s.fed = lines.wrapping_add(1),
+        RecordDamage::RunsMore => s.figures.runs = s.figures.runs.wrapping_add(1),
+        RecordDamage::RunsLess => s.figures.runs = s.figures.runs.wrapping_sub(1),
+        RecordDamage::JoinsMore => s.figures.joins = s.figures.joins.wrapping_add(1),
+        RecordDamage::JoinsLess => s.figures.joins = s.figures.joins.wrapping_sub(1),
+        RecordDamage::TotalMore => s.figures.cells = s.figures.cells.wrapping_add(1),
+        RecordDamage::TotalLess => s.figures.cells = s.figures.cells.checked_sub(1).unwrap_or(1),
+        RecordDamage::TotalFar => s.figures.cells = s.figures.cells.wrapping_add(FAR),
+        RecordDamage::TotalLargest => s.figures.cells = usize::MAX,
+        RecordDamage::Lopsided => {
+            let bytes = trial::structure_of(record).lopsided(x).bytes;
+            s.structure = bytes;
         }
     }
     s
 }
 
-fn damage_structure(structure: [u8; 81], rank: usize, d: usize, x: u64) -> [u8; 81] {
-    if d == STRUCTURE {
-        return samples::lopsided(structure, samples::power3(rank), x);
-    }
-    structure
-}
-
-// Of the total: 0, one more; 1, one less, or of an empty frame one more; 2, 2^32 more; 3, the largest number there is.
-fn damage_total(cells: usize, d: usize) -> usize {
-    match d {
-        0 => plus(cells, 1),
-        1 => {
-            if cells == 0 {
-                return 1;
-            }
-            less(cells, 1)
-        }
-        2 => plus(cells, 4294967296),
-        3 => 18446744073709551615,
-        _ => cells,
-    }
-}
-
-// `cells` is the total of the runs as the words then have them.
-fn damage_figures(figures: frame::Figures, cells: usize, d: usize) -> frame::Figures {
-    frame::Figures {
-        runs: less(plus(figures.runs, (d == 6) as usize), (d == 7) as usize),
-        joins: less(plus(figures.joins, (d == 8) as usize), (d == 9) as usize),
-        cells: if d == WRAPPED_TOTAL {
-            plus(cells, 4294967296)
-        } else {
-            damage_total(cells, less(d, TOTAL))
-        },
-    }
-}
-
-fn damage_record(session: Session, lines: usize, cells: usize, d: usize, x: u64) -> Session {
-    let shape = session.shape;
-    let structure = session.structure;
-    Session {
-        rank: damage_rank(session.rank, d),
-        shape: damage_shape(shape, session.rank, d),
-        structure: damage_structure(structure, session.rank, d, x),
-        fed: if d == 5 { plus(lines, 1) } else { session.fed },
-        figures: damage_figures(session.figures, cells, d),
-    }
-}
-
-// Whether damage d breaks a clause on a record of this rank: a leading dimension of 0 or too large needs one.
-fn breaks_record(rank: usize, d: usize) -> bool {
-    (d < LINES) & !((rank == 1) & ((d == 2) | (d == 3)))
-}
-
-// ---- words
-
-// Changes a word to another; gives whether it did.
-fn change(words: &mut [u32], at: usize, x: usize) -> bool {
-    let before = get(words, at);
-    put(words, at, word(x));
-    word(x) != before
-}
-
-// Of the line starts: 0, word 0; 1, a start below the one before; 2, the last not the count of runs.
-fn line_place(line: usize, fed: usize, d: usize) -> usize {
-    match d {
-        0 => 0,
-        1 => line,
-        _ => fed,
-    }
-}
-
-fn line_value(before: usize, runs: usize, d: usize) -> usize {
-    match d {
-        0 => 1,
-        1 => less(before, 1),
-        _ => plus(runs, 1),
-    }
-}
-
-fn damage_lines(words: &mut [u32], fed: usize, runs: usize, line: usize, d: usize) -> bool {
-    let before = get(words, less(line, 1)) as usize;
-    let breaks = (d != 1) | ((before > 0) & (line <= fed));
-    breaks & change(words, line_place(line, fed, d), line_value(before, runs, d))
-}
-
-// All runs in the last line.
-fn crowd(words: &mut [u32], fed: usize) {
-    for line in 1..fed {
-        put(words, line, 0);
-    }
-}
-
-// Whether run r + 1 is in the line of run r: no line starts with it.
-fn line_mates(words: &[u32], fed: usize, r: usize) -> bool {
-    let mut mates = true;
-    for line in 0..plus(fed, 1) {
-        mates = mates & (get(words, line) != word(plus(r, 1)));
-    }
-    mates
-}
-
-// Of a run: 0, its start not below its end; 1, its end past the width; 2 to 4, the next run of the line over it, or before it, or touching
-// it; 5, longer than one cell; 6, its parent above it; 7, a root that is none, or a run that is made a root.
-fn run_place(d: usize) -> usize {
-    match d {
-        0 => 0,
-        1 => layout::END,
-        2..=4 => layout::STRIDE,
-        5 => layout::END,
-        _ => layout::PARENT,
-    }
-}
-
-fn run_value(r: usize, start: usize, end: usize, parent: usize, width: usize, d: usize) -> usize {
-    match d {
-        0 => end,
-        1 => plus(width, 1),
-        2 => less(end, 1),
-        3 => 0,
-        4 => end,
-        5 => plus(start, 2),
-        6 => plus(r, 1),
-        _ => less(r, (parent == r) as usize),
-    }
-}
-
-// Whether the damage breaks a clause, if it changes a word: by whether the next run is in the line, the left byte is nonzero, and the run
-// can get another parent.
-fn breaks_run(mates: bool, left: bool, other: bool, d: usize) -> bool {
-    match d {
-        2 => mates,
-        3 => mates,
-        4 => mates & left,
-        5 => !left,
-        7 => other,
+// Whether a damage breaks a clause on a record of this rank: a leading dimension of 0 or too large needs one.
+fn breaks_record(rank: usize, damage: RecordDamage) -> bool {
+    match damage {
+        RecordDamage::ZeroDimension | RecordDamage::LargeDimension => rank != 1,
         _ => true,
     }
 }
 
-fn damage_run(words: &mut [u32], e: Extent, fed: usize, runs: usize, r: usize, d: usize) -> bool {
-    let at = layout::run_word(e, r, 0);
-    let start = get(words, at) as usize;
-    let end = get(words, plus(at, layout::END)) as usize;
-    let parent = get(words, plus(at, layout::PARENT)) as usize;
-    let mates = line_mates(words, fed, r);
-    let breaks = breaks_run(mates, e.left, (parent != r) | (r > 0), d);
-    let x = run_value(r, start, end, parent, e.width, d);
-    (r < runs) & breaks & change(words, plus(at, run_place(d)), x)
+// ---- words: whether a damage broke a clause
+
+// Changes a word to another; gives whether it did.
+fn change(words: &mut Words, at: usize, x: usize) -> bool {
+    let before = words.at(at);
+    words.set(at, x);
+    word(x) != before
 }
 
-// Of a root's size: 0, one more; 1, one less; 2, the largest number; 3, 0; 4, 2^16 more; and from 5 on 2^31 more, as another root's then
-// is, so that the sizes add up to 2^32 more than they should.
-fn size_value(size: usize, d: usize) -> usize {
-    match d {
-        0 => plus(size, 1),
-        1 => less(size, 1),
-        2 => 4294967295,
-        3 => 0,
-        4 => plus(size, 65536),
-        _ => plus(size, 2147483648),
+// The line is any but the first.
+fn damage_line(words: &mut Words, record: Session, line: usize, damage: LineDamage) -> bool {
+    let before = words.at(line.wrapping_sub(1)) as usize;
+    match damage {
+        LineDamage::First => change(words, 0, 1),
+        LineDamage::Falling => {
+            before > 0 && line <= record.fed && change(words, line, before.wrapping_sub(1))
+        }
+        LineDamage::Last => change(words, record.fed, record.figures.runs.wrapping_add(1)),
     }
 }
 
-fn damage_size(words: &mut [u32], e: Extent, runs: usize, d: usize, x: u64) -> bool {
-    let root = layout::root_of(words, e, below(x, runs));
-    let other = layout::root_of(words, e, below(samples::next(x), runs));
-    let both = d > 4;
-    if (runs == 0) | (both & (root == other)) {
+fn crowd(words: &mut Words, record: Session) -> bool {
+    for line in 1..record.fed {
+        words.set(line, 0);
+    }
+    record.figures.runs > words.extent.most_runs()
+}
+
+// Whether the next run is in the line of a run: no line starts with it.
+fn has_mate(words: &Words, lines: usize, run: usize) -> bool {
+    let next = word(run.wrapping_add(1));
+    (0..lines.wrapping_add(1)).all(|line| words.at(line) != next)
+}
+
+fn damage_run(words: &mut Words, record: Session, run: usize, damage: RunDamage) -> bool {
+    if run >= record.figures.runs {
         return false;
     }
-    let place = layout::run_word(e, other, layout::SIZE);
-    let before = get(words, place) as usize;
-    put(
-        words,
-        place,
-        word(if both { size_value(before, d) } else { before }),
-    );
-    let at = layout::run_word(e, root, layout::SIZE);
-    let value = size_value(get(words, at) as usize, d);
-    change(words, at, value)
-}
-
-// The sizes that a damaged run leaves add up to what its lengths do.
-fn damage_stored(words: &mut [u32], e: Extent, session: Session, d: usize, x: u64) -> bool {
-    let runs = session.figures.runs;
-    if d >= SIZES {
-        return damage_size(words, e, runs, less(d, SIZES), x);
+    let e = words.extent;
+    let place = e.run_place(run);
+    let next = e.run_place(run.wrapping_add(1));
+    let end_at = place.wrapping_add(Part::End as usize);
+    let parent_at = place.wrapping_add(Part::Parent as usize);
+    let start = words.get(run, Part::Start);
+    let end = words.get(run, Part::End);
+    let parent = words.get(run, Part::Parent);
+    let mate = has_mate(words, record.fed, run);
+    match damage {
+        RunDamage::Empty => change(words, place, end),
+        RunDamage::EndPastWidth => change(words, end_at, e.width().wrapping_add(1)),
+        RunDamage::NextOver => mate && change(words, next, end.wrapping_sub(1)),
+        RunDamage::NextBefore => mate && change(words, next, 0),
+        RunDamage::NextTouching => mate && e.left && change(words, next, end),
+        RunDamage::Longer => !e.left && change(words, end_at, start.wrapping_add(2)),
+        RunDamage::ParentAbove => change(words, parent_at, run.wrapping_add(1)),
+        RunDamage::OtherRoot if parent != run => change(words, parent_at, run),
+        RunDamage::OtherRoot => run > 0 && change(words, parent_at, run.wrapping_sub(1)),
     }
-    let broken = damage_run(words, e, session.fed, runs, below(x, runs), less(d, RUNS));
-    let cells = layout::sum_lengths(words, e, runs);
-    layout::lump_sizes(words, e, runs, word(cells));
-    broken
 }
 
-fn damage_words(words: &mut [u32], e: Extent, session: Session, d: usize, x: u64) -> bool {
-    let runs = session.figures.runs;
-    let fed = session.fed;
-    if (d < LINES) | (d >= SHORTER) {
+fn damaged_size(size: usize, damage: SizeDamage) -> usize {
+    match damage {
+        SizeDamage::More => size.wrapping_add(1),
+        SizeDamage::Less => size.wrapping_sub(1),
+        SizeDamage::Largest => 4294967295,
+        SizeDamage::Zero => 0,
+        SizeDamage::Far => size.wrapping_add(65536),
+        SizeDamage::Both | SizeDamage::BothAndTotal => size.wrapping_add(2147483648),
+    }
+}
+
+fn damage_size(words: &mut Words, runs: usize, damage: SizeDamage, x: u64) -> bool {
+    let root = words.root_of(below(x, runs));
+    let other = words.root_of(below(next(x), runs));
+    let both = matches!(damage, SizeDamage::Both | SizeDamage::BothAndTotal);
+    if runs == 0 || (both && root == other) {
         return false;
     }
-    if d < CROWDED {
-        return damage_lines(words, fed, runs, plus(below(x, fed), 1), less(d, LINES));
+    if both {
+        let size = damaged_size(words.get(other, Part::Size), damage);
+        words.put(other, Part::Size, size);
     }
-    if d == CROWDED {
-        crowd(words, fed);
-        return runs > layout::most_runs(e);
-    }
-    damage_stored(words, e, session, d, x)
+    let before = words.get(root, Part::Size);
+    words.put(root, Part::Size, damaged_size(before, damage));
+    words.get(root, Part::Size) != before
 }
 
-// The same; and any words for the sizes of runs that are no roots, where nothing else is to be changed.
-fn damage_memory(
-    words: &mut [u32],
-    e: Extent,
-    session: Session,
-    d: usize,
-    state: &mut [u64; 48],
-) -> bool {
-    let worse = damage_words(words, e, session, d, tally::random(state));
-    let free = times(session.figures.runs, (d == FREE) as usize);
-    samples::spoil_sizes(words, e, free, tally::random(state));
-    worse
+fn damage_words(words: &mut Words, record: Session, damage: Damage, x: u64) -> bool {
+    let runs = record.figures.runs;
+    match damage {
+        Damage::Line(damage) => {
+            let line = below(x, record.fed).wrapping_add(1);
+            damage_line(words, record, line, damage)
+        }
+        Damage::Crowded => crowd(words, record),
+        Damage::Run(damage) => {
+            let broken = damage_run(words, record, below(x, runs), damage);
+            words.lump_sizes(runs, words.sum_lengths(runs));
+            broken
+        }
+        Damage::Size(damage) => damage_size(words, runs, damage, x),
+        Damage::Record(_) | Damage::Shorter | Damage::FreeSizes | Damage::Nothing => false,
+    }
 }
 
 // ---- the calls
 
-fn answered(done: Done, session: Session, right: usize) -> bool {
-    let after = done.session;
-    (done.answer.number == right) & answers::same_record(after, session)
-}
-
-// One call: a feed of no lines, 1, a reading, 2, the size call, 3, or a change to the structure that the session was opened with, 4.
-// Whether it gives this number, and writes nothing if refused.
-fn call(
+// Whether a call that would be accepted gives this cause, or is accepted, and writes nothing if refused: a feed of no lines, a reading, a
+// size call, or a change to the structure that the session was opened with.
+fn is_answered(
     session: Session,
     words: &mut [u32],
-    structure: &[u8],
-    places: usize,
-    kind: usize,
-    right: usize,
-    x: u64,
+    frame: Frame,
+    call: Call,
+    n: usize,
+    right: Option<Cause>,
 ) -> bool {
-    let mut got = [171u32; 640];
-    if kind == 1 {
-        let done = trial::feed(session, words, 0, &[], (x % 4) as usize);
-        return answered(done, session, right);
+    match call {
+        Call::Feed(kind) => {
+            let fed = trial::feed(session, words, 0, &[], kind);
+            fed.answer.err() == right && fed.session == session
+        }
+        Call::Read(into) => {
+            let read = trial::read(session, words, into.places(frame.extent, n), into);
+            let stands = right.is_none() || begins_with(&read.output, &[], UNREAD);
+            stands && read.answer.err() == right && read.session == session
+        }
+        Call::Change => {
+            let changed = session.widen(words, frame.structure);
+            changed.answer.err() == right && changed.session == session
+        }
     }
-    if kind == 4 {
-        let done = trial::widen(session, words, structure);
-        return answered(done, session, right);
-    }
-    let done = trial::read(session, words, places, &mut got, kind);
-    let stands = layout::places_alike(&got, &[], 0);
-    answered(done, session, right) & ((right == 0) | stands)
 }
 
-fn call_all(
+fn try_calls(
     session: Session,
     words: &mut [u32],
-    structure: &[u8],
-    e: Extent,
+    frame: Frame,
     n: usize,
-    right: usize,
-    state: &mut [u64; 48],
+    right: Option<Cause>,
+    counts: &mut Counts,
 ) {
-    for kind in 1..5 {
-        let places = crate::sessions::exact_places(kind, e, n);
-        let x = tally::random(state);
-        let agreed = call(session, words, structure, places, kind, right, x);
-        tally::count(state, tally::OTHER, right, agreed);
+    let calls = [
+        Call::Feed(CellKind::of(counts.tally.draw())),
+        Call::Read(OutputKind::Numbers(NumberKind::U32)),
+        Call::Read(OutputKind::Sizes),
+        Call::Change,
+    ];
+    for call in calls {
+        let agreed = is_answered(session, words, frame, call, n, right);
+        counts.tally.count(right, agreed);
+    }
+    // Each of the four calls has a random number, and the feed alone takes its own.
+    counts.tally.skip(3);
+}
+
+// Changes the words; whether this damage, of the words or of the record, breaks a clause here.
+fn damage_memory(bad: &mut Tested, damage: Damage, counts: &mut Counts) -> bool {
+    let record = bad.session;
+    let broken = damage_words(&mut bad.words, record, damage, counts.tally.draw());
+    let x = counts.tally.draw();
+    match damage {
+        Damage::Record(damage) => breaks_record(record.rank, damage),
+        Damage::Shorter => true,
+        Damage::FreeSizes => {
+            samples::spoil_sizes(&mut bad.words, record.figures.runs, x);
+            false
+        }
+        _ => broken,
     }
 }
 
-// One damage, if it breaks a clause here.
-fn try_damage(
-    session: Session,
-    e: Extent,
-    structure: &[u8],
-    words: [u32; 3841],
-    n: usize,
-    d: usize,
-    state: &mut [u64; 48],
-) {
-    let mut bad = words;
-    let worse = damage_memory(&mut bad, e, session, d, state);
-    let broken = worse | breaks_record(session.rank, d) | (d == SHORTER);
-    if !broken & (d < FREE) {
+// The record that goes with such words: their total is that of the runs as they then are.
+fn damaged_record(bad: &Tested, lines: usize, damage: Damage, x: u64) -> Session {
+    let mut s = bad.session;
+    s.figures.cells = bad.words.sum_lengths(s.figures.runs);
+    match damage {
+        Damage::Record(damage) => damage_record(s, lines, damage, x),
+        Damage::Size(SizeDamage::BothAndTotal) => {
+            s.figures.cells = s.figures.cells.wrapping_add(FAR);
+            s
+        }
+        _ => s,
+    }
+}
+
+// One damage, if it breaks a clause here or is none.
+fn try_damage(tested: &Tested, frame: Frame, damage: Damage, counts: &mut Counts) {
+    let mut bad = *tested;
+    let broken = damage_memory(&mut bad, damage, counts);
+    let is_none = matches!(damage, Damage::FreeSizes | Damage::Nothing);
+    if !broken && !is_none {
         return;
     }
-    let kept = bad;
-    let memory = less(layout::words_needed(e), (d == SHORTER) as usize);
-    let cells = layout::sum_lengths(&bad, e, session.figures.runs);
-    let s = damage_record(session, e.lines, cells, d, tally::random(state));
-    call_all(
-        s,
-        samples::lend_u32(&mut bad, memory),
-        structure,
-        e,
-        n,
-        times(6, broken as usize),
-        state,
-    );
-    let agreed = !broken | layout::words_alike(&bad, &kept);
-    tally::count(state, plus(tally::UNDAMAGED, broken as usize), 0, agreed);
-}
-
-fn try_damages(
-    session: Session,
-    e: Extent,
-    structure: &[u8],
-    words: [u32; 3841],
-    n: usize,
-    state: &mut [u64; 48],
-) {
-    for d in 0..37 {
-        try_damage(session, e, structure, words, n, d, state);
-    }
+    bad.laid = bad.words;
+    let short = matches!(damage, Damage::Shorter) as usize;
+    let memory = frame.extent.words_needed().wrapping_sub(short);
+    let n = bad
+        .session
+        .figures
+        .runs
+        .wrapping_sub(bad.session.figures.joins);
+    let session = damaged_record(&bad, frame.extent.lines, damage, counts.tally.draw());
+    let words = lend(&mut bad.words.all, memory);
+    let right = if broken { Some(Cause::Unsound) } else { None };
+    try_calls(session, words, frame, n, right, counts);
+    add(if broken {
+        &mut counts.damaged
+    } else {
+        &mut counts.undamaged
+    });
+    counts.tally.count(None, !broken || bad.words == bad.laid);
 }
 
 // A session with some lines fed, and every damage in turn.
-pub fn try_damaged(shape: &[usize], structure: &[u8], flags: &[u8], state: &mut [u64; 48]) {
-    let mut words = [7u32; 3841];
-    let e = flood::extent_of(shape, structure);
-    let fed = below(tally::random(state), plus(e.lines, 1));
-    let opened = trial::open(shape, structure, &mut words);
-    let cells = samples::first(flags, times(fed, e.width));
-    let done = trial::feed(opened.session, &mut words, fed, cells, 0);
-    let said = done.answer;
-    tally::count(state, tally::OTHER, said.number, said.number == 0);
-    let session = done.session;
-    try_damages(
-        session,
-        e,
-        structure,
-        words,
-        less(said.figures.runs, said.figures.joins),
-        state,
-    );
+pub fn try_damaged(frame: Frame, counts: &mut Counts) {
+    let lines = below(counts.tally.draw(), frame.extent.lines.wrapping_add(1));
+    match Tested::fed(frame, lines) {
+        Ok(tested) => {
+            for damage in DAMAGES {
+                try_damage(&tested, frame, damage, counts);
+            }
+        }
+        Err(cause) => counts.count_refused(cause),
+    }
 }

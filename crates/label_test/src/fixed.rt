@@ -1,259 +1,240 @@
 // Fixed cases: the causes of an opening and of a structure change, and what stands after them; and u8 numbers at their limit.
-use crate::sessions;
-use flood::{layout, plus, times};
+use crate::counts::Counts;
+use crate::tested::Tested;
+use causes::Cause;
+use flood::layout::{UNREAD, Words};
+use flood::{CELLS, Frame, begins_with};
 use label::Session;
-use samples::tally;
-use trial::answers;
+use samples::{Structure, first, lend};
+use trial::{CellKind, NumberKind, OutputKind, WholeCall};
+
+// Each case is a row of arguments, and no struct, whose field names would then stand in every row.
+
+// ---- openings
 
 // A whole frame with so many words, that should be refused with this cause and leave words and output.
-fn try_whole(shape: &[usize], structure: &[u8], memory: usize, cause: usize) -> bool {
-    let mut words = [7u32; 3841];
-    let mut got = [171u32; 640];
-    let before = [7u32; 3841];
-    let lent = samples::lend_u32(&mut words, memory);
-    let said = trial::frames::label(0, shape, structure, lent, structure, 640, 1, &mut got);
-    let stands = layout::words_alike(&words, &before) & layout::places_alike(&got, &[], 0);
-    stands & (said.number == cause)
+fn refuses_whole(frame: Frame, memory: usize, cause: Cause) -> bool {
+    let mut words = Words::unwritten(frame.extent);
+    let before = words;
+    let call = WholeCall {
+        cells: CellKind::U8,
+        numbers: NumberKind::U8,
+        places: CELLS,
+        blocks: 1,
+    };
+    let done = trial::label(frame, lend(&mut words.all, memory), call);
+    done.answer == Err(cause) && words == before && begins_with(&done.output, &[], UNREAD)
 }
 
-// An opening with the same, that should give this cause, or 0; the whole frame then has an output that does not fit.
+// An opening with the same, that should be refused with this cause, if there is one; a whole frame then has an output that does not fit.
 fn try_structure(
     shape: &[usize],
     structure: &[u8],
     memory: usize,
-    cause: usize,
-    state: &mut [u64; 48],
+    cause: Option<Cause>,
+    counts: &mut Counts,
 ) {
-    let mut words = [7u32; 3841];
-    let mut laid = [7u32; 3841];
-    let whole = try_whole(shape, structure, memory, if cause == 0 { 9 } else { cause });
-    let done = trial::open(shape, structure, samples::lend_u32(&mut words, memory));
-    laid[0] = if cause == 0 { 0 } else { 7 };
-    let number = done.answer.number;
-    let agreed = whole & (number == cause) & layout::words_alike(&words, &laid);
-    tally::count(state, tally::OTHER, number, agreed);
+    let frame = Frame::new(shape, structure, structure);
+    let mut words = Words::unwritten(frame.extent);
+    let mut laid = words;
+    let whole = refuses_whole(frame, memory, cause.unwrap_or(Cause::Length));
+    let opened = Session::open(shape, structure, lend(&mut words.all, memory)).err();
+    if cause.is_none() {
+        laid.set(0, 0);
+    }
+    counts
+        .tally
+        .count(opened, whole && opened == cause && words == laid);
 }
 
 // With a structure of so many ones.
-fn try_opening(shape: &[usize], bytes: usize, memory: usize, cause: usize, state: &mut [u64; 48]) {
+fn try_opening(
+    shape: &[usize],
+    bytes: usize,
+    memory: usize,
+    cause: Option<Cause>,
+    counts: &mut Counts,
+) {
     let ones = [1u8; 243];
-    try_structure(shape, samples::first(&ones, bytes), memory, cause, state);
+    try_structure(shape, first(&ones, bytes), memory, cause, counts);
 }
 
 // With one whose first byte is 0, so that it is lopsided.
-fn try_lopsided(shape: &[usize], bytes: usize, memory: usize, cause: usize, state: &mut [u64; 48]) {
+fn try_lopsided(shape: &[usize], bytes: usize, memory: usize, cause: Cause, counts: &mut Counts) {
     let mut ones = [1u8; 243];
     ones[0] = 0;
-    try_structure(shape, samples::first(&ones, bytes), memory, cause, state);
+    try_structure(shape, first(&ones, bytes), memory, Some(cause), counts);
 }
 
-fn try_openings(state: &mut [u64; 48]) {
-    try_opening(&[], 1, 40, 1, state);
-    try_opening(&[], 3, 0, 1, state);
-    try_opening(&[1, 1, 1, 1, 1], 243, 40, 1, state);
-    try_opening(&[3, 3], 8, 40, 2, state);
-    try_opening(&[0, 3], 27, 40, 2, state);
-    try_opening(&[0, 3], 9, 40, 3, state);
-    try_opening(&[2, 0, 2], 27, 40, 3, state);
-    try_opening(&[0, 4294967295], 9, 0, 3, state);
+fn try_openings(counts: &mut Counts) {
+    let rank = Some(Cause::Rank);
+    let length = Some(Cause::StructureLength);
+    let zero = Some(Cause::ZeroDimension);
+    try_opening(&[], 1, 40, rank, counts);
+    try_opening(&[], 3, 0, rank, counts);
+    try_opening(&[1, 1, 1, 1, 1], 243, 40, rank, counts);
+    try_opening(&[3, 3], 8, 40, length, counts);
+    try_opening(&[0, 3], 27, 40, length, counts);
+    try_opening(&[0, 3], 9, 40, zero, counts);
+    try_opening(&[2, 0, 2], 27, 40, zero, counts);
+    try_opening(&[0, 4294967295], 9, 0, zero, counts);
 }
 
-// 12 comes after 1 and 2, and before 3, 4 and 5.
-fn try_all_lopsided(state: &mut [u64; 48]) {
-    try_lopsided(&[], 3, 40, 1, state);
-    try_lopsided(&[1, 1, 1, 1, 1], 243, 40, 1, state);
-    try_lopsided(&[3, 3], 27, 40, 2, state);
-    try_lopsided(&[0, 3], 9, 40, 12, state);
-    try_lopsided(&[4294967293, 1], 9, 40, 12, state);
-    try_lopsided(&[3, 3], 9, 33, 12, state);
-    try_lopsided(&[3], 3, 40, 12, state);
-    try_lopsided(&[3, 3], 9, 34, 12, state);
-    try_lopsided(&[1, 1, 3], 27, 40, 12, state);
-    try_lopsided(&[1, 1, 1, 3], 81, 40, 12, state);
-    try_structure(&[3], &[2, 0, 7], 40, 0, state);
+// A lopsided structure comes after a wrong rank and a wrong length, and before all else.
+fn try_all_lopsided(counts: &mut Counts) {
+    try_lopsided(&[], 3, 40, Cause::Rank, counts);
+    try_lopsided(&[1, 1, 1, 1, 1], 243, 40, Cause::Rank, counts);
+    try_lopsided(&[3, 3], 27, 40, Cause::StructureLength, counts);
+    try_lopsided(&[0, 3], 9, 40, Cause::Lopsided, counts);
+    try_lopsided(&[4294967293, 1], 9, 40, Cause::Lopsided, counts);
+    try_lopsided(&[3, 3], 9, 33, Cause::Lopsided, counts);
+    try_lopsided(&[3], 3, 40, Cause::Lopsided, counts);
+    try_lopsided(&[3, 3], 9, 34, Cause::Lopsided, counts);
+    try_lopsided(&[1, 1, 3], 27, 40, Cause::Lopsided, counts);
+    try_lopsided(&[1, 1, 1, 3], 81, 40, Cause::Lopsided, counts);
+    try_structure(&[3], &[2, 0, 7], 40, None, counts);
 }
 
-fn try_limits(state: &mut [u64; 48]) {
-    try_opening(&[4294967293, 1], 9, 40, 4, state);
-    try_opening(&[4294967292, 1], 9, 40, 5, state);
-    try_opening(&[4294967293, 0], 9, 40, 4, state);
-    try_opening(&[1, 2147483647], 9, 40, 4, state);
-    try_opening(&[1, 2147483646], 9, 40, 5, state);
-    try_opening(&[65536, 65536], 9, 40, 4, state);
-    try_opening(&[4294967296, 4294967296, 1], 27, 40, 4, state);
-    try_opening(&[3, 3], 9, 33, 5, state);
-    try_opening(&[3, 3], 9, 34, 0, state);
+fn try_limits(counts: &mut Counts) {
+    let large = Some(Cause::TooLarge);
+    let memory = Some(Cause::Memory);
+    try_opening(&[4294967293, 1], 9, 40, large, counts);
+    try_opening(&[4294967292, 1], 9, 40, memory, counts);
+    try_opening(&[4294967293, 0], 9, 40, large, counts);
+    try_opening(&[1, 2147483647], 9, 40, large, counts);
+    try_opening(&[1, 2147483646], 9, 40, memory, counts);
+    try_opening(&[65536, 65536], 9, 40, large, counts);
+    try_opening(&[4294967296, 4294967296, 1], 27, 40, large, counts);
+    try_opening(&[3, 3], 9, 33, memory, counts);
+    try_opening(&[3, 3], 9, 34, None, counts);
 }
 
-// A session with so many lines of nonzero cells fed. `more` is added to the record's total, which makes it unsound.
-fn feed_ones(
-    shape: &[usize],
-    structure: &[u8],
-    lines: usize,
-    more: usize,
-    words: &mut [u32; 3841],
-) -> Session {
-    let ones = [1u8; 640];
-    let e = flood::extent_of(shape, structure);
-    let opened = trial::open(shape, structure, words);
-    let cells = samples::first(&ones, times(lines, e.width));
-    let fed = trial::feed(opened.session, words, lines, cells, 0);
-    let mut session = fed.session;
-    let mut figures = session.figures;
-    figures.cells = plus(figures.cells, more);
-    session.figures = figures;
-    session
-}
+// ---- structure changes
 
 // Whether a feed of no lines is accepted, or refused as it should be, and changes nothing.
-fn feeds_none(
-    session: Session,
-    words: &mut [u32; 3841],
-    laid: &[u32; 3841],
-    accepted: bool,
-) -> bool {
-    let done = trial::feed(session, words, 0, &[], 0);
-    let stands = answers::same_record(done.session, session) & layout::words_alike(words, laid);
-    stands & ((done.answer.number == 0) == accepted)
+fn feeds_none(tested: &mut Tested, accepted: bool) -> bool {
+    let done = trial::feed(tested.session, &mut tested.words.all, 0, &[], CellKind::U8);
+    let stands = done.session == tested.session && tested.words == tested.laid;
+    stands && done.answer.is_ok() == accepted
 }
 
-// A change of such a session from a structure to another, that should give this cause, or 0; and a feed of no lines then.
+// A session with so many lines of nonzero cells fed, and a change of it from a structure to another, which should be refused with this
+// cause, if there is one; and a feed of no lines then. To be unsound, the record has a total of one more.
 fn try_change(
     shape: &[usize],
+    lines: usize,
     old: &[u8],
     new: &[u8],
-    lines: usize,
-    more: usize,
-    cause: usize,
-    state: &mut [u64; 48],
+    cause: Option<Cause>,
+    counts: &mut Counts,
 ) {
-    let mut words = [7u32; 3841];
-    let ones = [1u8; 640];
-    let e = flood::extent_of(shape, old);
-    let session = feed_ones(shape, old, lines, more, &mut words);
-    let mut laid = words;
-    let turn = sessions::change(session, e, new, &ones, &mut words, &mut laid, cause);
-    let stands = feeds_none(turn.session, &mut words, &laid, more == 0);
-    tally::count(state, tally::OTHER, turn.number, turn.agreed & stands);
-}
-
-// The structure whose byte i is nonzero where the binary digit i of a number is, the lowest being digit 0.
-fn structure_of(code: usize) -> [u8; 81] {
-    let mut s = [0u8; 81];
-    let mut rest = code;
-    for i in 0..81 {
-        s[i] = (rest % 2) as u8;
-        rest = rest / 2;
+    let ones = [1u8; CELLS];
+    let is_sound = cause != Some(Cause::Unsound);
+    match Tested::fed(Frame::new(shape, old, &ones), lines) {
+        Ok(mut tested) => {
+            let more = !is_sound as usize;
+            tested.session.figures.cells = tested.session.figures.cells.wrapping_add(more);
+            let turn = tested.change(Frame::new(shape, new, &ones), cause);
+            let stands = feeds_none(&mut tested, is_sound);
+            counts.tally.count(turn.cause, turn.agreed && stands);
+        }
+        Err(cause) => counts.count_refused(cause),
     }
-    s
 }
 
-// Of rank 1 and width 3, where the new structure has so many bytes.
-fn try_line(
-    lines: usize,
-    old: usize,
-    new: usize,
-    bytes: usize,
-    more: usize,
-    cause: usize,
-    state: &mut [u64; 48],
-) {
-    let a = structure_of(old);
-    let b = structure_of(new);
-    let to = samples::first(&b, bytes);
-    try_change(&[3], samples::first(&a, 3), to, lines, more, cause, state);
+// Of a frame of rank 1 and width 3.
+fn try_line(lines: usize, old: &[u8], new: &[u8], cause: Option<Cause>, counts: &mut Counts) {
+    try_change(&[3], lines, old, new, cause, counts);
 }
 
-// Of three lines of this width.
+// A length that is not exact comes before a lopsided structure, and that before a narrower one, which is so by the left byte either way, or
+// by the middle one. An unsound record comes before all of them.
+fn try_line_changes(counts: &mut Counts) {
+    let length = Some(Cause::StructureLength);
+    let lopsided = Some(Cause::Lopsided);
+    let narrower = Some(Cause::NotWider);
+    let unsound = Some(Cause::Unsound);
+    try_line(1, &[1, 1, 1], &[], length, counts);
+    try_line(1, &[1, 1, 1], &[0, 1], length, counts);
+    try_line(0, &[1, 1, 1], &[1, 1, 1, 1], length, counts);
+    try_line(1, &[1, 1, 1], &[1, 1, 0], lopsided, counts);
+    try_line(1, &[0, 1, 0], &[0, 0, 1], lopsided, counts);
+    try_line(1, &[1, 1, 1], &[0, 1, 0], narrower, counts);
+    try_line(0, &[0, 1, 0], &[1, 1, 1], narrower, counts);
+    try_line(1, &[1, 1, 1], &[1, 0, 1], narrower, counts);
+    try_line(1, &[1, 0, 1], &[1, 1, 1], None, counts);
+    try_line(1, &[0, 1, 0], &[0, 1, 0], None, counts);
+    try_line(1, &[1, 1, 1], &[1, 1], unsound, counts);
+    try_line(1, &[1, 1, 1], &[1, 1, 0], unsound, counts);
+    try_line(0, &[1, 1, 1], &[0, 1, 0], unsound, counts);
+    try_line(1, &[1, 1, 1], &[1, 1, 1], unsound, counts);
+}
+
+const ROW: [u8; 9] = [0, 0, 0, 1, 1, 1, 0, 0, 0];
+
+const ARMS: [u8; 9] = [0, 1, 0, 1, 0, 1, 0, 1, 0];
+
+const SLANT: [u8; 9] = [1, 0, 0, 1, 1, 1, 0, 0, 1];
+
+const FULL: [u8; 9] = [1; 9];
+
+// Of a frame of three lines of this width.
 fn try_plane(
     width: usize,
     lines: usize,
-    old: usize,
-    new: usize,
-    bytes: usize,
-    cause: usize,
-    state: &mut [u64; 48],
+    old: &[u8],
+    new: &[u8],
+    cause: Option<Cause>,
+    counts: &mut Counts,
 ) {
-    let a = structure_of(old);
-    let b = structure_of(new);
-    let to = samples::first(&b, bytes);
-    try_change(
-        &[3, width],
-        samples::first(&a, 9),
-        to,
-        lines,
-        0,
-        cause,
-        state,
-    );
+    try_change(&[3, width], lines, old, new, cause, counts);
 }
-
-// 2 comes before 12, and 12 before 19, which is for the left byte either way, and for the middle one. 6 comes before all of them. Here 7 is
-// 111, 5 is 101 and 2 is 010; 3 and 4 are lopsided.
-fn try_line_changes(state: &mut [u64; 48]) {
-    try_line(1, 7, 7, 0, 0, 2, state);
-    try_line(1, 7, 2, 2, 0, 2, state);
-    try_line(0, 7, 15, 4, 0, 2, state);
-    try_line(1, 7, 3, 3, 0, 12, state);
-    try_line(1, 2, 4, 3, 0, 12, state);
-    try_line(1, 7, 2, 3, 0, 19, state);
-    try_line(0, 2, 7, 3, 0, 19, state);
-    try_line(1, 7, 5, 3, 0, 19, state);
-    try_line(1, 5, 7, 3, 0, 0, state);
-    try_line(1, 2, 2, 3, 0, 0, state);
-    try_line(1, 7, 7, 2, 1, 6, state);
-    try_line(1, 7, 3, 3, 1, 6, state);
-    try_line(0, 7, 2, 3, 1, 6, state);
-    try_line(1, 7, 7, 3, 1, 6, state);
-}
-
-// 000111000, 010101010, 100111001 and 111111111.
-const ROW: usize = 56;
-
-const ARMS: usize = 170;
-
-const SLANT: usize = 313;
-
-const FULL: usize = 511;
 
 // Wider by a pair or more, equal, and narrower by a pair, by the first, or by the middle byte. Where no line is fed, and where the lines
 // have no cells, only the record changes.
-fn try_plane_changes(state: &mut [u64; 48]) {
-    try_plane(3, 3, ROW, SLANT, 9, 0, state);
-    try_plane(3, 2, ROW, FULL, 9, 0, state);
-    try_plane(3, 3, SLANT, SLANT, 9, 0, state);
-    try_plane(3, 0, SLANT, FULL, 9, 0, state);
-    try_plane(0, 3, SLANT, FULL, 9, 0, state);
-    try_plane(3, 1, ARMS, FULL, 9, 0, state);
-    try_plane(3, 3, ROW, ARMS, 9, 19, state);
-    try_plane(3, 3, SLANT, ROW, 9, 19, state);
-    try_plane(3, 0, FULL, SLANT, 9, 19, state);
-    try_plane(0, 3, FULL, ARMS, 9, 19, state);
-    try_plane(3, 3, ROW, FULL, 3, 2, state);
-    try_plane(3, 3, ROW, FULL, 27, 2, state);
+fn try_plane_changes(counts: &mut Counts) {
+    let narrower = Some(Cause::NotWider);
+    let length = Some(Cause::StructureLength);
+    let padded = Structure::of(&FULL).bytes;
+    try_plane(3, 3, &ROW, &SLANT, None, counts);
+    try_plane(3, 2, &ROW, &FULL, None, counts);
+    try_plane(3, 3, &SLANT, &SLANT, None, counts);
+    try_plane(3, 0, &SLANT, &FULL, None, counts);
+    try_plane(0, 3, &SLANT, &FULL, None, counts);
+    try_plane(3, 1, &ARMS, &FULL, None, counts);
+    try_plane(3, 3, &ROW, &ARMS, narrower, counts);
+    try_plane(3, 3, &SLANT, &ROW, narrower, counts);
+    try_plane(3, 0, &FULL, &SLANT, narrower, counts);
+    try_plane(0, 3, &FULL, &ARMS, narrower, counts);
+    try_plane(3, 3, &ROW, first(&padded, 3), length, counts);
+    try_plane(3, 3, &ROW, first(&padded, 27), length, counts);
 }
 
-// A line of so many cells, every other nonzero, read as u8, which should give this cause, or 0.
-fn try_lone(width: usize, cause: usize, state: &mut [u64; 48]) {
-    let mut flags = [0u8; 640];
-    let mut words = [7u32; 3841];
-    let mut got = [171u32; 640];
-    samples::make_lone(&mut flags);
-    let opened = trial::open(&[width], &[1, 1, 1], &mut words);
-    let cells = samples::first(&flags, width);
-    let fed = trial::feed(opened.session, &mut words, 1, cells, 0);
-    let read = trial::read(fed.session, &mut words, width, &mut got, 0);
-    let said = read.answer;
-    let agreed = (said.number == cause) & ((said.count == 255) | (cause == 10));
-    tally::count(state, tally::OTHER, said.number, agreed);
+// ---- numbers at a limit
+
+// A line of so many cells, every other nonzero, read as u8, which should be refused with this cause, if there is one.
+fn try_lone(width: usize, cause: Option<Cause>, counts: &mut Counts) {
+    let flags = samples::lone_flags();
+    match Tested::fed(Frame::new(&[width], &[1, 1, 1], &flags), 1) {
+        Ok(mut tested) => {
+            let into = OutputKind::Numbers(NumberKind::U8);
+            let read = trial::read(tested.session, &mut tested.words.all, width, into);
+            let agreed = match read.answer {
+                Ok(counted) => cause.is_none() && counted.n == 255,
+                Err(refused) => cause == Some(refused),
+            };
+            counts.tally.count(read.answer.err(), agreed);
+        }
+        Err(cause) => counts.count_refused(cause),
+    }
 }
 
-pub fn try_all(state: &mut [u64; 48]) {
-    try_openings(state);
-    try_all_lopsided(state);
-    try_limits(state);
-    try_line_changes(state);
-    try_plane_changes(state);
-    try_lone(509, 0, state);
-    try_lone(511, 10, state);
+pub fn try_all(counts: &mut Counts) {
+    try_openings(counts);
+    try_all_lopsided(counts);
+    try_limits(counts);
+    try_line_changes(counts);
+    try_plane_changes(counts);
+    try_lone(509, None, counts);
+    try_lone(511, Some(Cause::Kind), counts);
 }

@@ -15,11 +15,11 @@ use Rattle.frame.specs.Shape.{size, width, leading, coords}
 use Rattle.frame.specs.Touches.{has_nbr, nbr_line}
 use Rattle.frame.proofs.ShapeLaws.{factor_pos, size_lines_lem, coords_line}
 use Rattle.geo.proofs.DimsLaws.{three_entries, size_ones}
-use Rattle.link.specs.declared.NbrLine.TheVariants.{At, Nothing}
 use Rattle.frame.specs.Structure.{digit}
 use Rattle.link.specs.Coordinates.{moves_in}
 use Rattle.link.specs.Lines.{signed_coords, nbr_of}
 use Rattle.sweep.proofs.SignedLaws.{small}
+use Rattle.std.proofs.Common.{Some, None}
 
 -- ---- coordinates
 
@@ -216,12 +216,12 @@ module _ (dims : List ℕ) (c o : List ℤ) (three_dims : length dims ≡ 3) (th
       ∙ three_ways (λ a b c. ((a + O 0 - 1) * D 1 + (b + O 1 - 1)) * D 2 + (c + O 2 - 1))
 
   pub nbr_yes : (moves_in (X 0) (O 0) (D 0) && moves_in (X 1) (O 1) (D 1)) && moves_in (X 2) (O 2) (D 2) ≡ true
-      → At (((X 0 + O 0 - 1) * D 1 + (X 1 + O 1 - 1)) * D 2 + (X 2 + O 2 - 1)) ≡ nbr_of dims (map digit o) ℓ
+      → Some (((X 0 + O 0 - 1) * D 1 + (X 1 + O 1 - 1)) * D 2 + (X 2 + O 2 - 1)) ≡ nbr_of dims (map digit o) ℓ
   unfolding nbr_of
   nbr_yes e = rw (has_is ∙ e, line_is)
 
   pub nbr_no : (moves_in (X 0) (O 0) (D 0) && moves_in (X 1) (O 1) (D 1)) && moves_in (X 2) (O 2) (D 2) ≡ false
-      → Nothing ≡ nbr_of dims (map digit o) ℓ
+      → None ≡ nbr_of dims (map digit o) ℓ
   unfolding nbr_of
   nbr_no e = rw (has_is ∙ e)
 

@@ -7,6 +7,7 @@ use native.Mathlib.Omega.{arith}
 use borrow.Author.Tests.{lt-ltb, le-ltb, le-leb, ltb-true}
 use lib.Dec.{ltb, leb, T}
 use lib.IntN.{ℤ, pos, negsuc, nat_abs, ◌+ℤ◌}
+use Rattle.std.proofs.Common.{Some, None}
 use lib.Signed.{lt_z, le_z, non_neg}
 use mir.Syntax.{w64}
 use mir.Val.{SFits, Fits, of_z, to_z}
@@ -104,12 +105,12 @@ module _ (c o : ℤ) (d : ℕ) (S : Move c o d) where
     pub inside_cast : T (non_neg (held (held c +ℤ held o))) × Fits w64 (nat_abs (held (held c +ℤ held o)))
     inside_cast = move_cast c o S.coordinate low S.offset up
 
-    pub inside_moved : nat_abs (held (held c +ℤ held o)) ≡ moved_to (nat_abs c) (digit o) d
+    pub inside_moved : Some (nat_abs (held (held c +ℤ held o))) ≡ moved_to (nat_abs c) (digit o) d
     unfolding moved_to
-    inside_moved = rw (sym test_is ∙ inside) (move_nat c o S.coordinate low S.offset up)
+    inside_moved = rw (sym test_is ∙ inside) (ap (λ (n : ℕ). Some n) (move_nat c o S.coordinate low S.offset up))
 
   pub outside_moved : le_z (pos 0) (held (held c +ℤ held o)) && lt_z (held (held c +ℤ held o)) (to_z w64 d) ≡ false
-      → d ≡ moved_to (nat_abs c) (digit o) d
+      → None ≡ moved_to (nat_abs c) (digit o) d
   unfolding moved_to
   outside_moved e = rw (sym test_is ∙ e)
 

@@ -10,10 +10,10 @@ use Rattle.frame.specs.Structure.{digit}
 use Rattle.link.specs.Coordinates.{Move}
 use Rattle.geo.specs.Geometry.{ThreeDims}
 use Rattle.offsets.specs.Digits.{OffsetOf, three_digits}
-use Rattle.link.specs.declared.NbrLine.{NbrLine}
 use Rattle.link.specs.Lines.{signed_coords, Moves, nbr_of}
 use Rattle.offsets.proofs.OffsetLaws.{three_digits_lem, parts_low}
 use Rattle.link.proofs.CoordinateLaws.{coords_are, first_below, middle_below, last_below_lem, first_small, middle_small, last_small}
+use Rattle.std.proofs.Common.{Option}
 
 module _ (n : ℕ) (dims : List ℕ) (L ℓ k : ℕ) (D : ThreeDims n dims L) (three : length dims ≡ 3) (within : ℓ < L)
     (c o : List ℤ) (is_c : c ≡ signed_coords dims ℓ) (O : OffsetOf n k o) where
@@ -44,6 +44,6 @@ module _ (n : ℕ) (dims : List ℕ) (L ℓ k : ℕ) (D : ThreeDims n dims L) (t
   }
 
 -- by the listed offset with a code it finds the neighbour by frame's
-pub found_by : (n k : ℕ) (o : List ℤ) → OffsetOf n k o → (dims : List ℕ) (ℓ : ℕ) {r : NbrLine} → r ≡ nbr_of dims (map digit o) ℓ
+pub found_by : (n k : ℕ) (o : List ℤ) → OffsetOf n k o → (dims : List ℕ) (ℓ : ℕ) {r : Option ℕ} → r ≡ nbr_of dims (map digit o) ℓ
     → r ≡ nbr_of dims (three_digits n k) ℓ
 found_by n k o O dims ℓ e = e ∙ ap (λ (l : List ℕ). nbr_of dims l ℓ) (three_digits_lem n k o O)

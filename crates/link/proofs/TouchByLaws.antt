@@ -13,44 +13,43 @@ use Rattle.frame.specs.Words.{line_start, stored_run}
 use Rattle.frame.specs.Touches.{used, has_nbr, nbr_line, touches_by}
 use Rattle.frame.proofs.StructureLaws.{backward_below}
 use Rattle.frame.proofs.TouchLaws.{nbr_earlier}
-use Rattle.link.specs.declared.NbrLine.{NbrLine}
-use Rattle.link.specs.declared.NbrLine.TheVariants.{At, Nothing}
 use Rattle.geo.specs.Geometry.{ThreeDims, leading_of}
 use Rattle.offsets.specs.Digits.{three_digits}
 use Rattle.link.specs.Lines.{nbr_of, pairs_of}
 use Rattle.geo.proofs.DimsLaws.{size_ones}
 use Rattle.link.proofs.CoordinateLaws.{has_ones, line_ones}
+use Rattle.std.proofs.Common.{Option, Some, None}
 
 -- ---- the answer of nbr_line
 
-line_in : NbrLine → ℕ
-line_in (At m) = m
-line_in Nothing = 0
+line_in : Option ℕ → ℕ
+line_in (Some m) = m
+line_in None = 0
 
-is_line : NbrLine → Bool
-is_line (At m) = true
-is_line Nothing = false
+is_line : Option ℕ → Bool
+is_line (Some m) = true
+is_line None = false
 
 module _ (ds ts : List ℕ) (ℓ : ℕ) where
-  answer_is : (a : NbrLine) → a ≡ nbr_of ds ts ℓ → is_line a ≡ has_nbr ds ts ℓ
+  answer_is : (a : Option ℕ) → a ≡ nbr_of ds ts ℓ → is_line a ≡ has_nbr ds ts ℓ
   unfolding nbr_of is_line
   answer_is a e = ap is_line e ∙ go (has_nbr ds ts ℓ)
     where
-      go : (b : Bool) → is_line (cond b (At (nbr_line ds ts ℓ)) Nothing) ≡ b
+      go : (b : Bool) → is_line (cond b (Some (nbr_line ds ts ℓ)) None) ≡ b
       go true = refl
       go false = refl
 
-  found_has : (m : ℕ) → At m ≡ nbr_of ds ts ℓ → has_nbr ds ts ℓ ≡ true
+  found_has : (m : ℕ) → Some m ≡ nbr_of ds ts ℓ → has_nbr ds ts ℓ ≡ true
   unfolding is_line
-  found_has m e = sym (answer_is (At m) e)
+  found_has m e = sym (answer_is (Some m) e)
 
-  found_line : (m : ℕ) → At m ≡ nbr_of ds ts ℓ → m ≡ nbr_line ds ts ℓ
+  found_line : (m : ℕ) → Some m ≡ nbr_of ds ts ℓ → m ≡ nbr_line ds ts ℓ
   unfolding line_in nbr_of
-  found_line m e = ap line_in e ∙ ap (λ (b : Bool). line_in (cond b (At (nbr_line ds ts ℓ)) Nothing)) (found_has m e)
+  found_line m e = ap line_in e ∙ ap (λ (b : Bool). line_in (cond b (Some (nbr_line ds ts ℓ)) None)) (found_has m e)
 
-  none_has : Nothing ≡ nbr_of ds ts ℓ → has_nbr ds ts ℓ ≡ false
+  none_has : None ≡ nbr_of ds ts ℓ → has_nbr ds ts ℓ ≡ false
   unfolding is_line
-  none_has e = sym (answer_is Nothing e)
+  none_has e = sym (answer_is None e)
 
 -- ---- n leading dimensions among three
 
@@ -108,12 +107,12 @@ module _ (n : ℕ) (dims : List ℕ) (L : ℕ) (D : ThreeDims n dims L) (three :
     unfolding touches_by
     by_unused e = rw (used_is ∙ e)
 
-    pub by_none : (prev || adj) || next ≡ true → Nothing ≡ nbr_of dims (three_digits n k) ℓ
+    pub by_none : (prev || adj) || next ≡ true → None ≡ nbr_of dims (three_digits n k) ℓ
         → touches_by (leading_of n dims) structure (line_start ws) (stored_run L ws) ℓ k ≡ []
     unfolding touches_by
     by_none e a = rw (used_is ∙ e, sym has_three ∙ none_has dims (three_digits n k) ℓ a)
 
-    module _ (m : ℕ) (e : (prev || adj) || next ≡ true) (a : At m ≡ nbr_of dims (three_digits n k) ℓ) where
+    module _ (m : ℕ) (e : (prev || adj) || next ≡ true) (a : Some m ≡ nbr_of dims (three_digits n k) ℓ) where
       has : has_nbr ds (offset (length ds) k) ℓ ≡ true
       has = sym has_three ∙ found_has dims (three_digits n k) ℓ m a
 

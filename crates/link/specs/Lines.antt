@@ -11,10 +11,9 @@ use Rattle.geo.specs.Geometry.{leading_of, ThreeDims}
 use Rattle.forest.specs.Forest.{root_sizes}
 use Rattle.forest.specs.Unions.{United}
 use Rattle.sweep.specs.declared.Nbr.{Nbr}
-use Rattle.link.specs.declared.NbrLine.{NbrLine}
-use Rattle.link.specs.declared.NbrLine.TheVariants.{At, Nothing}
 use Rattle.link.specs.Coordinates.{Move}
 use Rattle.sweep.specs.Sweeps.{InOrder, link_pairs}
+use Rattle.std.specs.Prelude.{Option, Some, None}
 
 -- ---- coordinates in three dimensions
 
@@ -30,8 +29,8 @@ pub record Moves (dims : List ℕ) (c o : List ℤ) : Type 0 where
   pub small : size dims < 4294967296
 
 -- the neighbour of line ℓ by the offset with the digits ts, if it has one
-unfoldable pub nbr_of : List ℕ → List ℕ → ℕ → NbrLine
-nbr_of ds ts ℓ = cond (has_nbr ds ts ℓ) (At (nbr_line ds ts ℓ)) Nothing
+unfoldable pub nbr_of : List ℕ → List ℕ → ℕ → Option ℕ
+nbr_of ds ts ℓ = cond (has_nbr ds ts ℓ) (Some (nbr_line ds ts ℓ)) None
 
 -- ---- the union of line ℓ, the last that there is, with its neighbours
 

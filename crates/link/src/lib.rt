@@ -25,14 +25,10 @@ pub fn union_line(words: &mut [u32], g: geo::Geo, structure: &[u8], line: usize)
     if words[line] == words[line + 1] {
         return 0;
     }
-    let dims = g.dims;
-    let c = coords(dims, line);
-    let count = offsets::backward_count(g.leads);
-    let mut joins: usize = 0;
-    let mut code: usize = 0;
-    while code < count {
+    let c = coords(g.dims, line);
+    let mut joins = 0;
+    for code in 0..offsets::backward_count(g.leads) {
         joins += union_by(words, g, structure, line, c, code);
-        code += 1;
     }
     joins
 }
@@ -53,11 +49,9 @@ fn union_by(
     let adj = structure[3 * code + 1] != 0;
     let next = structure[3 * code + 2] != 0;
     if prev | adj | next {
-        let dims = g.dims;
-        let o = offsets::delta(g.leads, code);
-        match nbr_line(dims, c, o) {
-            NbrLine::At(m) => link_lines(words, g.lines, line, m, sweep::Nbr { prev, adj, next }),
-            NbrLine::Nothing => 0,
+        match nbr_line(g.dims, c, offsets::delta(g.leads, code)) {
+            Some(m) => link_lines(words, g.lines, line, m, sweep::Nbr { prev, adj, next }),
+            None => 0,
         }
     } else {
         0
@@ -87,47 +81,33 @@ pub fn coords(dims: [usize; 3], line: usize) -> [i64; 3]
     requires { (line < size dims) × (size dims < 4294967296) }
     ensures { result ≡ signed_coords dims line }
 {
-    let d1 = dims[1];
-    let d2 = dims[2];
+    let [_, d1, d2] = dims;
     let r = line / d2;
     [(r / d1) as i64, (r % d1) as i64, (line % d2) as i64]
 }
 
-// The Rust's `Option<usize>`: a line's neighbour, if it has one.
-#[derive(Clone, Copy)]
-pub enum NbrLine {
-    At(usize),
-    Nothing,
-}
-
 // The line at the offset `o` from the line at the coordinates `c`. One coordinate out of range means that there is none, even
 // where the line's number would fit.
-pub fn nbr_line(dims: [usize; 3], c: [i64; 3], o: [i64; 3]) -> NbrLine
+pub fn nbr_line(dims: [usize; 3], c: [i64; 3], o: [i64; 3]) -> Option<usize>
     requires { Moves dims c o }
     ensures { (ℓ : ℕ) → c ≡ signed_coords dims ℓ → result ≡ nbr_of dims (map digit o) ℓ }
 {
-    let d0 = dims[0];
-    let d1 = dims[1];
-    let d2 = dims[2];
-    let v0 = moved(c[0], o[0], d0);
-    let v1 = moved(c[1], o[1], d1);
-    let v2 = moved(c[2], o[2], d2);
-    if (v0 < d0) & (v1 < d1) & (v2 < d2) {
-        NbrLine::At((v0 * d1 + v1) * d2 + v2)
-    } else {
-        NbrLine::Nothing
-    }
+    let [d0, d1, d2] = dims;
+    let v0 = moved(c[0], o[0], d0)?;
+    let v1 = moved(c[1], o[1], d1)?;
+    let v2 = moved(c[2], o[2], d2)?;
+    Some((v0 * d1 + v1) * d2 + v2)
 }
 
-// The coordinate `c`, moved by `o`; or `d`, where it is then in no dimension of `d`.
-fn moved(c: i64, o: i64, d: usize) -> usize
+// The coordinate `c`, moved by `o`, if it is then in a dimension of `d`.
+fn moved(c: i64, o: i64, d: usize) -> Option<usize>
     requires { Move c o d }
     ensures { result ≡ moved_to (nat_abs c) (digit o) d }
 {
     let v = c + o;
     if (v >= 0) & (v < d as i64) {
-        v as usize
+        Some(v as usize)
     } else {
-        d
+        None
     }
 }

@@ -49,12 +49,9 @@ pub fn name_line(words: &mut [u32], lines: usize, line: usize, c: u32) -> u32
     requires { LineToName lines line words.old c }
     ensures { Named lines (line_start words.old (suc line)) words.old words.new result }
 {
-    let last = line_start(words, line + 1);
     let mut named = c;
-    let mut r = line_start(words, line);
-    while r < last {
+    for r in line_start(words, line)..line_start(words, line + 1) {
         named = name_run(words, lines, r, named);
-        r += 1;
     }
     named
 }

@@ -36,7 +36,8 @@ pub fn backward_count(leads: usize) -> usize
     }
 }
 
-// ---- the cases, one for each code. The last arm of each list is for every other number, and is never taken
+// ---- the cases, one for each code of each rank, written out so that they can be read beside the drawing. There is no other code: the last
+// arm of each list is proved never to be taken
 
 // Rank 1 has no leading dimension, and one line: code 0.
 fn rank1_offset(code: usize) -> [i64; 3]
@@ -45,7 +46,7 @@ fn rank1_offset(code: usize) -> [i64; 3]
 {
     match code {
         0 => [0, 0, 0],
-        _ => [0, 0, 0],
+        _ => unreachable!(),
     }
 }
 
@@ -62,7 +63,7 @@ fn rank2_offset(code: usize) -> [i64; 3]
         0 => [0, 0, -1],
         1 => [0, 0, 0],
         2 => [0, 0, 1],
-        _ => [0, 0, 0],
+        _ => unreachable!(),
     }
 }
 
@@ -87,7 +88,7 @@ fn rank3_offset(code: usize) -> [i64; 3]
         6 => [0, 1, -1],
         7 => [0, 1, 0],
         8 => [0, 1, 1],
-        _ => [0, 0, 0],
+        _ => unreachable!(),
     }
 }
 
@@ -134,6 +135,6 @@ fn rank4_offset(code: usize) -> [i64; 3]
         24 => [1, 1, -1],
         25 => [1, 1, 0],
         26 => [1, 1, 1],
-        _ => [0, 0, 0],
+        _ => unreachable!(),
     }
 }

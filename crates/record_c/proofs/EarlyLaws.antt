@@ -9,7 +9,10 @@ use borrow.Author.Tests.{ltb-false, lt-ltb, le-ltb}
 use lib.Dec.{ltb}
 use lib.ListN.{length}
 use Rattle.record_c.specs.Records.{record_words, structure_words, bytes, RecordReady}
-use Rattle.record_c.specs.Early.{short, least_answer, open_early, frame_early, record_early}
+use Rattle.causes.proofs.CaseLaws.{positive}
+use Rattle.record_c.specs.declared.Refusal.{Refusal}
+use Rattle.record_c.specs.declared.Refusal.TheVariants as R
+use Rattle.record_c.specs.Early.{short, least_answer, open_early, frame_early, record_early, refusal_number}
 
 module _ (r : List ℕ) where
   pub short_record : length r < record_words → open_early r ≡ 100
@@ -37,7 +40,8 @@ module _ (r : List ℕ) where
   unfolding record_early
   early_ready n e = go (ltb (length r) record_words) (ltb n least_answer) (bytes (structure_words r)) refl refl e
     where
-      go : (a b t : Bool) → ltb (length r) record_words ≡ a → bytes (structure_words r) ≡ t → ◌≡◌ {A = ℕ} (cond (a || b) short (cond t 0 6)) 0
+      go : (a b t : Bool) → ltb (length r) record_words ≡ a → bytes (structure_words r) ≡ t
+          → ◌≡◌ {A = ℕ} (cond (a || b) short (cond t 0 6)) 0
           → RecordReady r
       go true b t ea et z = absurd (omega arith)
       go false true t ea et z = absurd (omega arith)
@@ -51,3 +55,8 @@ frame_short n h = rw (lt-ltb n least_answer h)
 pub frame_long : (n : ℕ) → least_answer ≤ n → frame_early n ≡ 0
 unfolding frame_early
 frame_long n h = rw (le-ltb n least_answer h)
+
+-- no refusal has the number 0
+pub refusal_positive : (x : Refusal) → 0 < refusal_number x
+refusal_positive R.Short = omega arith
+refusal_positive (R.Cause c) = positive c

@@ -4,17 +4,13 @@ use mathlib.Core.Path.{◌≡◌, sym, ◌∙◌}
 use mathlib.Core.List.{List}
 use Prim.Native.Nat.{ℕ, ◌-◌, ◌<◌}
 use native.Mathlib.Omega.{arith}
-use Rattle.frame.specs.Plain.{Answer, refused}
-use Rattle.frame.specs.Overlay.{overlay, Adds}
+use Rattle.frame.specs.Plain.{refused}
+use Rattle.frame.specs.Overlay.{overlay}
 use Rattle.frame.proofs.PlainLaws.{kept_new, kept_old}
-use Rattle.frame.proofs.OverlayLaws.{overlay_none, adds_first}
+use Rattle.frame.proofs.OverlayLaws.{overlay_none}
 use Rattle.label.specs.declared.Session.{Session}
 use Rattle.record_c.specs.Records.{words_of}
-use Rattle.record_c.specs.Ends.{returned, answer_words, record_after, ReadEnd}
-
-pub ends_written : (said : Answer) {answer answer' : List ℕ} {place : ℕ} → returned said ≡ 0
-    → Adds (answer_words said) answer 0 answer' place → ReadEnd said answer 0 answer'
-ends_written said e A = record { number_is = sym e; answer_is = (adds_first A).now_is }
+use Rattle.record_c.specs.Ends.{record_after, ReadEnd}
 
 pub ends_refused : (c : ℕ) {number : ℕ} (answer : List ℕ) → number ≡ c → ReadEnd (refused c) answer number answer
 ends_refused c answer e = record { number_is = e; answer_is = sym (overlay_none answer) }

@@ -1,18 +1,18 @@
 -- A record as words: which words are bytes, a structure copied from them, and a record read back from where it was written.
 -- Assumes nothing.
+use denote.Param.Members.{Mut}
+use Rattle.std.specs.Array.{IsMapOf}
+use Rattle.std.specs.Fn.{Called}
+use Rattle.std.proofs.lemmas.List.{ext_get_or}
 use mathlib.Core.Path.{◌≡◌, refl, ap, ◌∙◌, subst}
 use mathlib.Core.Bool.{true, false}
-use mathlib.Core.List.{List, [], ◌∷◌, ◌++◌, append-nil, append_assoc}
-use Prim.Native.Nat.{ℕ, zero, suc, ◌+◌, ◌≤◌, ◌<◌}
+use mathlib.Core.List.{List, [], ◌∷◌, ◌++◌, append_assoc}
+use Prim.Native.Nat.{ℕ, ◌+◌, ◌≤◌, ◌<◌}
 use native.Mathlib.Numerals.{add-one}
 use native.Mathlib.Omega.{arith}
-use borrow.Author.Tests.{ltb-true, lt-ltb, le-ltb}
-use lib.Dec.{ltb}
+use borrow.Author.Tests.{lt-ltb, le-ltb}
 use lib.ListN.{length, get_or, drop, length-append, length-drop, drop_of_length-le}
 use lib.Seq.{drop-cons, length-take-le, take_at, get_or-append-add}
-use Rattle.groups.proofs.BoolLaws.{and_left, and_right}
-use Rattle.geo.proofs.CopyLaws.{front, front_done}
-use Rattle.frame.specs.Lists.{padded}
 use Rattle.frame.specs.Overlay.{overlay}
 use Rattle.frame.proofs.OverlayLaws.{length_overlay, overlay_short}
 use Rattle.frame.specs.declared.Figures.{Figures}
@@ -34,25 +34,13 @@ pub bytes_end : (l : List ℕ) (i : ℕ) → length l ≤ i → bytes (drop i l)
 unfolding bytes
 bytes_end l i h = rw (drop_of_length-le l {i = i} h) refl
 
-pub byte_at : (l : List ℕ) → bytes l ≡ true → (i : ℕ) → get_or l i 0 < 256
-unfolding bytes
-byte_at [] e i = omega arith
-byte_at (x ∷ xs) e zero = ltb-true x 256 (and_left (ltb x 256) (bytes xs) e)
-byte_at (x ∷ xs) e (suc i) = byte_at xs (and_right (ltb x 256) (bytes xs) e) i
-
 -- ---- shape and structure
 
-pub four : (l : List ℕ) → length l ≡ 4 → get_or l 0 0 ∷ get_or l 1 0 ∷ get_or l 2 0 ∷ get_or l 3 0 ∷ [] ≡ l
-four [] e = absurd (omega arith)
-four (a ∷ []) e = absurd (omega arith)
-four (a ∷ b ∷ []) e = absurd (omega arith)
-four (a ∷ b ∷ c ∷ []) e = absurd (omega arith)
-four (a ∷ b ∷ c ∷ d ∷ []) e = refl
-four (a ∷ b ∷ c ∷ d ∷ x ∷ l) e = absurd (omega arith)
-
-pub copied : (s l : List ℕ) (i : ℕ) → l ≡ front 81 s i → length s ≤ i → i ≤ length s → length s ≡ 81 → l ≡ s
-unfolding padded
-copied s l i e a b n = front_done 81 s l i e (omega arith) ∙ rw n (append-nil s)
+-- an array that is mapped by what gives each number back
+pub mapped_same : {F : Type 0} (g : Mut F (ℕ × Unit {0}) ℕ) (f : F) (xs ys : List ℕ) (n : ℕ) → IsMapOf g f xs ys n → length xs ≡ n
+    → ((p q : F) (x y : ℕ) → Called g p (x, tt) y q → y ≡ x) → ys ≡ xs
+mapped_same g f xs ys n M e same =
+    ext_get_or 0 ys xs (omega (arith, M.long)) (λ i h. let c = M.at i 0 0 (omega (arith, M.long)) in same c.0 c.1 _ _ c.2)
 
 pub structure_ready : (r : List ℕ) → RecordReady r → StructureReady (structure_words r)
 structure_ready r R = record { long = length-take-le 81 (drop 5 r) (omega (arith, length-drop 5 r, R.long)); are_bytes = R.are_bytes }

@@ -1,16 +1,23 @@
 -- What ends a call: what it returns, and what it writes to the record and to the answer.
 -- Assumes nothing.
-use Rattle.std.specs.Prelude.{◌≡◌, List, [], ◌∷◌, ℕ}
+use Rattle.std.specs.Prelude.{◌≡◌, List, [], ◌∷◌, ℕ, Result, Ok, Err}
 use Rattle.frame.specs.Plain.{Answer, fed, counted, refused, kept}
 use Rattle.frame.specs.Overlay.{overlay}
 use Rattle.label.specs.declared.Session.{Session}
+use Rattle.record_c.specs.declared.Refusal.{Refusal}
 use Rattle.record_c.specs.Records.{figure_words, words_of}
+use Rattle.record_c.specs.Early.{refusal_number}
 
 -- for an answer: 0, or the number of the refusal
 abbrev pub returned : Answer → ℕ
 returned (fed l f) = 0
 returned (counted n f) = 0
 returned (refused c) = c
+
+-- the same for a call that ended
+abbrev pub number_of : Result (Unit {0}) Refusal → ℕ
+number_of (Ok u) = 0
+number_of (Err e) = refusal_number e
 
 -- its first words: lines fed or n, then the figures. A refusal writes none
 abbrev pub answer_words : Answer → List ℕ

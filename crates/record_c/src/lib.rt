@@ -1,13 +1,17 @@
-// A record and an answer as words, for the C interface: what is found in the words before a call is made, the record that they hold, and
-// what a call writes to them at its end. specs/Records.antt has the words of a record, Early.antt and Ends.antt the rest.
+// A record and an answer as words, for the C interface: the record that words hold, or why a call with it is not made, and what a call
+// writes to them at its end. specs/Records.antt has the words of a record, Early.antt and Ends.antt the rest.
 #![tactic(auto)]
 
-ghost use Rattle.std.specs.Prelude.{◌≡◌, [], ◌∷◌};
-ghost use Rattle.frame.specs.Overlay.{overlay, Adds};
-ghost use Rattle.label.specs.Cases.{feed_answer, open_number, read_answer};
-ghost use Rattle.record_c.specs.Records.{figure_words, words_of, record_of, bytes, StructureReady, RecordReady};
-ghost use Rattle.record_c.specs.Early.{record_early};
-ghost use Rattle.record_c.specs.Ends.{record_after, FeedEnd, ReadEnd};
+ghost use Rattle.std.specs.Prelude.{◌≡◌, ◌∷◌, length};
+ghost use Rattle.frame.specs.Overlay.{overlay};
+ghost use Rattle.overlay.specs.Writers.{Writes};
+ghost use Rattle.label.specs.Cases.{open_number, opened, feed_answer, read_answer};
+ghost use Rattle.record_c.specs.Records.{figure_words, words_of};
+ghost use Rattle.record_c.specs.Early.{refusal_number, StructureHeld, RecordHeld};
+ghost use Rattle.record_c.specs.Ends.{number_of, record_after, FeedEnd, ReadEnd};
+ghost use Rattle.record_c.specs.declared.Refusal.TheVariants.{Cause};
+
+use overlay::Writer;
 
 // The words of a record: rank, shape, structure, lines fed, and the figures. A byte of the structure has a word of its own.
 pub const RECORD_WORDS: usize = 90;
@@ -15,48 +19,67 @@ pub const RECORD_WORDS: usize = 90;
 // The least words of an answer. It has room to spare: what a call does not say is not written.
 pub const ANSWER_WORDS: usize = 8;
 
-// Returned where the record or the answer is too short.
-pub const SHORT: u32 = 100;
+// Why a call is refused.
+#[derive(Clone, Copy, PartialEq, Eq, Debug)]
+pub enum Refusal {
+    // the record or the answer is too short
+    Short,
+    // the documents' causes
+    Cause(causes::Cause),
+}
 
-// Returned where words are no record's.
-const UNSOUND: u32 = 6;
+impl Refusal {
+    pub fn number(self) -> u32
+        ensures { result ≡ refusal_number self }
+    {
+        match self {
+            Refusal::Short => 100,
+            Refusal::Cause(cause) => cause.number(),
+        }
+    }
+}
+
+impl From<causes::Cause> for Refusal {
+    ghost from_gives = { λ cause refusal. refusal ≡ Cause cause };
+
+    fn from(cause: causes::Cause) -> Refusal {
+        Refusal::Cause(cause)
+    }
+}
+
+// The number that a call returns.
+pub fn number_of(ended: Result<(), Refusal>) -> u32
+    ensures { result ≡ number_of ended }
+{
+    match ended {
+        Ok(()) => 0,
+        Err(refusal) => refusal.number(),
+    }
+}
 
 // ---- from words to a record
 
-// Whether each word is a byte.
-fn are_bytes(words: &[u64]) -> bool
-    ensures { result ≡ bytes words.now }
+// The bytes that a structure's words are.
+fn structure_of(words: &[u64]) -> Result<[u8; 81], causes::Cause>
+    requires { length words.now ≡ 81 }
+    ensures { StructureHeld words.now result }
 {
-    let mut i = 0;
-    while i < words.len() {
-        if words[i] > 255 {
-            return false;
-        }
-        i += 1;
+    let mut structure = [0; 81];
+    for (i, word) in words.iter().enumerate() {
+        structure[i] = u8::try_from(*word).map_err(|_| causes::Cause::Unsound)?;
     }
-    true
+    Ok(structure)
 }
 
-// The bytes of a structure's words.
-fn structure_of(words: &[u64]) -> [u8; 81]
-    requires { StructureReady words.now }
-    ensures { result ≡ words.now }
+// The record that words hold, for a call whose answer has so many words.
+pub fn record_of(rec: &[u64], answer: usize) -> Result<label::Session, Refusal>
+    ensures { RecordHeld rec.now answer result }
 {
-    let mut out = [0u8; 81];
-    let mut i = 0usize;
-    while i < words.len() {
-        out[i] = words[i] as u8;
-        i += 1;
+    if rec.len() < RECORD_WORDS || answer < ANSWER_WORDS {
+        return Err(Refusal::Short);
     }
-    out
-}
-
-pub fn record_of(rec: &[u64]) -> label::Session
-    requires { RecordReady rec.now }
-    ensures { result ≡ record_of rec.now }
-{
-    let structure = structure_of(&rec[5..86]);
-    label::Session {
+    let structure = structure_of(&rec[5..86])?;
+    Ok(label::Session {
         rank: rec[0] as usize,
         shape: [
             rec[1] as usize,
@@ -71,126 +94,79 @@ pub fn record_of(rec: &[u64]) -> label::Session
             joins: rec[88] as usize,
             cells: rec[89] as usize,
         },
-    }
-}
-
-// What is found before a call with a record is made, where `answer` is the count of its words: 100, 6 or 0.
-pub fn record_early(rec: &[u64], answer: usize) -> u32
-    ensures { result ≡ record_early rec.now answer }
-{
-    if rec.len() < RECORD_WORDS {
-        return SHORT;
-    }
-    if answer < ANSWER_WORDS {
-        return SHORT;
-    }
-    if !are_bytes(&rec[5..86]) {
-        return UNSOUND;
-    }
-    0
+    })
 }
 
 // ---- from a record and an answer to words
 
-// Writes x, if there is room, and gives the next place.
-fn put(buf: &mut [u64], at: usize, x: u64) -> usize
-    ensures { Adds (x ∷ []) buf.old at buf.new result }
-{
-    if at < buf.len() {
-        buf[at] = x;
-        return at + 1;
-    }
-    at
-}
-
-fn put_shape(buf: &mut [u64], at: usize, shape: [usize; 4]) -> usize
-    ensures { Adds shape buf.old at buf.new result }
-{
-    let second = put(buf, at, shape[0] as u64);
-    let third = put(buf, second, shape[1] as u64);
-    let fourth = put(buf, third, shape[2] as u64);
-    put(buf, fourth, shape[3] as u64)
-}
-
 // Lines fed or n, and behind it the figures: the last words of a record, and the first of an answer.
-fn put_figures(buf: &mut [u64], at: usize, count: usize, figures: frame::Figures) -> usize
-    ensures { Adds (count ∷ figure_words figures) buf.old at buf.new result }
+fn count_words(count: usize, figures: frame::Figures) -> [u64; 4]
+    ensures { result ≡ count ∷ figure_words figures }
 {
-    let second = put(buf, at, count as u64);
-    let third = put(buf, second, figures.runs as u64);
-    let fourth = put(buf, third, figures.joins as u64);
-    put(buf, fourth, figures.cells as u64)
+    [count, figures.runs, figures.joins, figures.cells].map(|number| number as u64)
 }
 
-fn put_bytes(buf: &mut [u64], at: usize, list: &[u8]) -> usize
-    ensures { Adds list.now buf.old at buf.new result }
+// Each byte as a word, one by one: as an array of words they would take 3 kB of stack.
+// No method of Writer for lists of any kind: it would promise the values of each function that gives what `into` does, for its callers to
+// name and to show, which takes more than this loop.
+fn put_bytes(words: &mut Writer<u64>, bytes: &[u8])
+    ensures { Writes bytes.now words.old words.new }
 {
-    let mut next = at;
-    let mut i = 0;
-    while i < list.len() {
-        next = put(buf, next, wide(list[i]));
-        i += 1;
+    for &byte in bytes {
+        words.put(u64::from(byte));
     }
-    next
-}
-
-fn wide(x: u8) -> u64
-    ensures { result ≡ x }
-{
-    x as u64
 }
 
 fn write_record(s: label::Session, rec: &mut [u64])
     ensures { rec.new ≡ overlay (words_of s) rec.old }
 {
-    let next = put(rec, 0, s.rank as u64);
-    let third = put_shape(rec, next, s.shape);
-    let last = put_bytes(rec, third, &s.structure);
-    put_figures(rec, last, s.fed, s.figures);
+    let mut words = Writer { out: rec, at: 0 };
+    words.put(s.rank as u64);
+    words.put_all(&s.shape.map(|dimension| dimension as u64));
+    put_bytes(&mut words, &s.structure);
+    words.put_all(&count_words(s.fed, s.figures));
+}
+
+fn write_answer(count: usize, figures: frame::Figures, answer: &mut [u64])
+    ensures { answer.new ≡ overlay (count ∷ figure_words figures) answer.old }
+{
+    let mut words = Writer { out: answer, at: 0 };
+    words.put_all(&count_words(count, figures));
 }
 
 // ---- the end of a call
 
-// An opening's: the number to return, and the record of an opening that was accepted.
-pub fn end_open(o: label::Opened, rec: &mut [u64]) -> u32
-    ensures { (result ≡ open_number o.answer)
-        × (rec.new ≡ record_after (open_number o.answer) o.session rec.old) }
+// An opening's: an accepted one writes the record.
+pub fn end_open(
+    session: Result<label::Session, causes::Cause>,
+    rec: &mut [u64],
+) -> Result<(), Refusal>
+    ensures { (number_of result ≡ open_number session)
+        × (rec.new ≡ record_after (open_number session) (opened session) rec.old) }
 {
-    let answer = o.answer;
-    match answer {
-        label::OpenAnswer::Accepted => {
-            write_record(o.session, rec);
-            0
-        }
-        label::OpenAnswer::Refused(cause) => cause.number(),
-    }
+    write_record(session?, rec);
+    Ok(())
 }
 
-// A feed's: the number to return, and the record and the answer of a feed that was accepted.
-pub fn end_feed(f: label::Fed, rec: &mut [u64], answer: &mut [u64]) -> u32
-    ensures { FeedEnd (feed_answer f.answer) f.session rec.old answer.old
-        result rec.new answer.new }
+// A feed's and a structure change's: an accepted one writes the record and the answer.
+pub fn end_feed(fed: label::Fed, rec: &mut [u64], answer: &mut [u64]) -> Result<(), Refusal>
+    ensures { FeedEnd (feed_answer fed.answer) fed.session rec.old answer.old
+        (number_of result) rec.new answer.new }
 {
-    let said = f.answer;
-    match said {
-        label::FeedAnswer::Accepted { lines, figures } => {
-            write_record(f.session, rec);
-            put_figures(answer, 0, lines, figures);
-            0
-        }
-        label::FeedAnswer::Refused(cause) => cause.number(),
-    }
+    let said = fed.answer?;
+    write_record(fed.session, rec);
+    write_answer(said.lines, said.figures, answer);
+    Ok(())
 }
 
-// A reading's, a size call's and a whole frame's.
-pub fn end_read(said: label::ReadAnswer, answer: &mut [u64]) -> u32
-    ensures { ReadEnd (read_answer said) answer.old result answer.new }
+// A reading's, a size call's and a whole frame's: an accepted one writes the answer.
+pub fn end_read(
+    read: Result<label::Counted, causes::Cause>,
+    answer: &mut [u64],
+) -> Result<(), Refusal>
+    ensures { ReadEnd (read_answer read) answer.old (number_of result) answer.new }
 {
-    match said {
-        label::ReadAnswer::Accepted { n, figures } => {
-            put_figures(answer, 0, n, figures);
-            0
-        }
-        label::ReadAnswer::Refused(cause) => cause.number(),
-    }
+    let said = read?;
+    write_answer(said.n, said.figures, answer);
+    Ok(())
 }

@@ -16,275 +16,173 @@
 #![tactic(auto)]
 
 mod cells;
-mod fields;
+mod stored;
 
-use fields::value;
-use flood::{less, plus};
-use samples::tally;
-use samples::tally::{add, at};
-use trial::answers::Answer;
-
-// The entries of `state`: first what is printed, in its order; a rank's count stands RANKS after the rank, and an outcome's first line
-// FIRST after its count. Then the length of the line so far, and its number.
-const ANSWERS: usize = 1;
-
-const AGREED: usize = 2;
-
-const DIFFERED: usize = 3;
-
-const MALFORMED: usize = 4;
-
-const RANKS: usize = 4;
-
-const NONE: usize = 9;
-
-const FIRST: usize = 7;
-
-const LENGTH: usize = 20;
-
-const LINE: usize = 21;
+use causes::Cause;
+use cells::Written;
+use flood::layout::UNREAD;
+use flood::{CELLS, Frame};
+use label::Counted;
+use std::alloc::{AllocError, Global};
+use std::io::{self, BufRead, BufReader, Read};
+use stored::{Fault, Said, Stored};
+use trial::{CellKind, Labelled, WholeCall, add, add_at, label_cells};
 
 // ---- one answer
 
-// n; for refusal 10 the number of `none`, and for any other BAD.
-fn said(answer: Answer) -> usize {
-    let number = answer.number;
-    match number {
-        0 => answer.count,
-        10 => fields::NONE,
-        _ => fields::BAD,
+// The memory of the calls, never cleared: each frame is labelled in words that the one before left.
+const WORDS: usize = 8192;
+
+// What a line says of n where it agrees with the answer. A refusal but 10 agrees with digits that are no decimal of a line.
+fn n_of(answer: Result<Counted, Cause>) -> Said<'static> {
+    match answer {
+        Ok(counted) => Said::Number(counted.n),
+        Err(Cause::Kind) => Said::NONE,
+        Err(_) => Said::Digits,
     }
 }
 
-// Whether n is what the line says, and every place of the output: the labels are the fields from `from` to before `to`, and each other
-// place holds 171, as before the call.
-fn agrees(values: &[usize; 3200], from: usize, to: usize, n: usize, got: &[u32; 640]) -> bool {
-    let mut alike = n == value(values, less(from, 1));
-    for i in 0..640 {
-        let field = plus(from, i);
-        let right = if field < to {
-            value(values, field)
-        } else {
-            171
-        };
-        alike = alike & (flood::get(got, i) as usize == right);
-    }
-    alike
+// Whether every place of the output is as it should be: those past the labels are as before the call.
+fn holds(output: &[u32; CELLS], labels: &[Option<usize>]) -> bool {
+    let (written, others) = output.split_at(labels.len().min(CELLS));
+    let written = written.iter().map(|x| Some(*x as usize));
+    written.eq(labels.iter().copied()) && others.iter().all(|x| *x == UNREAD)
 }
 
-// How many of the labels, the fields from `from` to before `to`, are not 0.
-fn count_labelled(values: &[usize; 3200], from: usize, to: usize) -> usize {
-    let mut cells = 0;
-    for field in from..to {
-        cells = plus(cells, (value(values, field) != 0) as usize);
-    }
-    cells
+// Whether n, the count of nonzero cells and the output are what the line says.
+fn agrees(got: &Labelled, stored: &Stored) -> bool {
+    let cells = got.answer.map_or(0, |counted| counted.figures.cells);
+    let others = stored.labels.iter().filter(|label| **label != Some(0));
+    n_of(got.answer) == stored.n && cells == others.count() && holds(&got.output, &stored.labels)
 }
 
-fn shape_of(values: &[usize; 3200]) -> &[usize] {
-    let t = &values[..];
-    &t[4..]
-}
-
-// Labels the frame of a line, and says whether all is as the line says.
-fn label(
-    values: &[usize; 3200],
-    rank: usize,
-    fields: usize,
-    kinds: usize,
-    structure: &[u8],
-    a: &[u8],
-    b: &[u16],
-    d: &[i16],
-    e: &[f32],
-    words: &mut [u32; 8192],
-) -> bool {
-    let mut got = [171u32; 640];
-    let shape = samples::first_sizes(shape_of(values), rank);
-    let answer = trial::frames::label_cells(
-        kinds,
-        shape,
-        structure,
-        words,
-        a,
-        b,
-        d,
-        e,
-        a.len(),
-        values[2],
-        &mut got,
-    );
-    let from = plus(rank, 7);
-    let total = answer.figures.cells == count_labelled(values, from, fields);
-    total & agrees(values, from, fields, said(answer), &got)
-}
-
-// A frame whose cells are these characters: its outcome.
-fn try_frame(
-    values: &[usize; 3200],
-    rank: usize,
-    fields: usize,
-    kinds: usize,
-    structure: &[u8],
-    s: &[u8],
-    words: &mut [u32; 8192],
-) -> usize {
-    let mut u8s = [0u8; 640];
-    let mut u16s = [0u16; 640];
-    let mut i16s = [0i16; 640];
-    let mut f32s = [0.0f32; 640];
-    if cells::make_cells(s, kinds / 4, &mut u8s, &mut u16s, &mut i16s, &mut f32s) != 0 {
-        return MALFORMED;
-    }
-    let a = cells::first_u8(&u8s, s.len());
-    let b = samples::first_u16(&u16s, s.len());
-    let d = samples::first_i16(&i16s, s.len());
-    let e = samples::first_f32(&f32s, s.len());
-    let agreed = label(values, rank, fields, kinds, structure, a, b, d, e, words);
-    if agreed { AGREED } else { DIFFERED }
+// Labels the frame of a line, with cells of a kind, and says whether all is as the line says.
+fn label<T: Written>(alloc: Global, stored: &Stored, words: &mut [u32]) -> Result<bool, Fault> {
+    let cells: Vec<T> = stored.cells_of(alloc)?;
+    let call = WholeCall {
+        cells: stored.cell_kind,
+        numbers: stored.number_kind,
+        places: cells.len(),
+        blocks: stored.blocks,
+    };
+    let frame = Frame::new(&stored.shape, &stored.structure, &[]);
+    Ok(agrees(&label_cells(frame, words, call, &cells), stored))
 }
 
 // ---- lines
 
-// Whether there are as many labels as cells, or none with `none`, and kinds, block count and rank are such as they should be.
-fn is_formed(
-    values: &[usize; 3200],
-    kinds: usize,
+// What became of a line: its rank, whether it says `none`, and whether all was as it says.
+#[derive(Clone, Copy)]
+struct Tried {
     rank: usize,
-    fields: usize,
-    cells: usize,
-) -> bool {
-    let labels = less(fields, plus(rank, 7));
-    if (kinds == fields::BAD) | (values[2] >= fields::EMPTY) {
-        return false;
-    }
-    if less(rank, 1) > 3 {
-        return false;
-    }
-    if value(values, plus(rank, 6)) == fields::NONE {
-        return labels == 0;
-    }
-    labels == cells
+    declined: bool,
+    agreed: bool,
 }
 
-// Counts an answer by its rank, and `none`.
-fn count_answer(state: &mut [u64; 48], rank: usize, n: usize, outcome: usize) {
-    if outcome == MALFORMED {
-        return;
-    }
-    add(state, ANSWERS);
-    add(state, plus(rank, RANKS));
-    if n == fields::NONE {
-        add(state, NONE);
-    }
+// A line with the byte 10 at its end. One with none is too long, or stands after the last such byte, and does not have the form.
+fn try_line(alloc: Global, line: &[u8], words: &mut [u32]) -> Result<Tried, Fault> {
+    let line = line.strip_suffix(b"\n").ok_or(Fault::Malformed)?;
+    let stored = Stored::parse(alloc, line)?;
+    let agreed = match stored.cell_kind {
+        CellKind::U8 => label::<u8>(alloc, &stored, words)?,
+        CellKind::U16 => label::<u16>(alloc, &stored, words)?,
+        CellKind::I16 => label::<i16>(alloc, &stored, words)?,
+        CellKind::F32 => label::<f32>(alloc, &stored, words)?,
+    };
+    Ok(Tried {
+        rank: stored.shape.len(),
+        declined: stored.n == Said::NONE,
+        agreed,
+    })
 }
 
-// A line's outcome, where its fields are so many.
-fn try_fields(
-    line: &[u8],
-    values: &[usize; 3200],
-    rank: usize,
-    fields: usize,
-    words: &mut [u32; 8192],
-) -> usize {
-    let mut structure = [0u8; 81];
-    let kinds = fields::kinds(values);
-    let s = fields::text_of(line, values, plus(rank, 5));
-    let bits = fields::text_of(line, values, plus(rank, 4));
-    if !is_formed(values, kinds, rank, fields, s.len()) {
-        return MALFORMED;
-    }
-    if cells::make_structure(bits, &mut structure) != 0 {
-        return MALFORMED;
-    }
-    let bytes = samples::first(&structure, bits.len());
-    try_frame(values, rank, fields, kinds, bytes, s, words)
+// ---- the counts
+
+#[derive(Default, Drop)]
+struct Counts {
+    lines: u64,
+    answers: u64,
+    agreed: u64,
+    differed: u64,
+    malformed: u64,
+    ranks: [u64; 4],
+    declined: u64,
+    first_differed: Option<u64>,
+    first_malformed: Option<u64>,
 }
 
-fn set(state: &mut [u64; 48], i: usize, x: u64) {
-    if i < 48 {
-        state[i] = x;
+impl Counts {
+    fn count_tried(&mut self, tried: Tried) {
+        add(&mut self.answers);
+        add_at(&mut self.ranks, tried.rank.wrapping_sub(1));
+        if tried.declined {
+            add(&mut self.declined);
+        }
+        if tried.agreed {
+            add(&mut self.agreed);
+        } else {
+            add(&mut self.differed);
+            self.first_differed = self.first_differed.or(Some(self.lines));
+        }
     }
-}
 
-// Counts an outcome, and notes its first line unless it agreed.
-fn tell(state: &mut [u64; 48], outcome: usize) {
-    let first = plus(outcome, FIRST);
-    let line = at(state, LINE);
-    add(state, outcome);
-    if (outcome != AGREED) & (at(state, first) == 0) {
-        set(state, first, line);
+    // The next line.
+    fn count(&mut self, tried: Result<Tried, Fault>) -> Result<(), AllocError> {
+        add(&mut self.lines);
+        match tried {
+            Ok(tried) => self.count_tried(tried),
+            Err(Fault::Malformed) => {
+                add(&mut self.malformed);
+                self.first_malformed = self.first_malformed.or(Some(self.lines));
+            }
+            Err(Fault::Memory(e)) => return Err(e),
+        }
+        Ok(())
     }
-}
 
-fn try_line(line: &[u8], words: &mut [u32; 8192], state: &mut [u64; 48]) {
-    let mut values = [fields::EMPTY; 3200];
-    add(state, LINE);
-    let fields = fields::split(line, &mut values);
-    let rank = values[3];
-    let outcome = try_fields(line, &values, rank, fields, words);
-    count_answer(state, rank, value(&values, plus(rank, 6)), outcome);
-    tell(state, outcome);
-}
-
-// One byte more of the input: `line` has those of its line so far. What is past 1,600 is not kept: the line is too long as it is.
-fn push(line: &mut [u8; 1600], c: u8, words: &mut [u32; 8192], state: &mut [u64; 48]) {
-    let n = state[LENGTH] as usize;
-    if n < 1600 {
-        line[n] = c;
-        state[LENGTH] = (n + 1) as u64;
-    }
-    if c == 10 {
-        try_line(line_of(line, plus(n, 1)), words, state);
-        state[LENGTH] = 0;
+    fn report(&self, rt: &impl Print) -> io::Result<()> {
+        println!(rt; "answers={}", self.answers)?;
+        println!(rt; "agreed={}", self.agreed)?;
+        println!(rt; "differed={}", self.differed)?;
+        println!(rt; "malformed={}", self.malformed)?;
+        for (i, count) in self.ranks.iter().enumerate() {
+            println!(rt; "rank{}={count}", i.wrapping_add(1))?;
+        }
+        println!(rt; "none={}", self.declined)?;
+        println!(rt; "first_differed={}", self.first_differed.unwrap_or(0))?;
+        println!(rt; "first_malformed={}", self.first_malformed.unwrap_or(0))
     }
 }
 
-fn line_of(s: &[u8; 1600], n: usize) -> &[u8] {
-    let t = &s[..];
-    samples::first(t, n)
-}
+// The longest line, with the byte 10 at its end.
+const MOST_BYTES: usize = 1501;
 
-fn push_all(text: &[u8], line: &mut [u8; 1600], words: &mut [u32; 8192], state: &mut [u64; 48]) {
-    for i in 0..text.len() {
-        push(line, flood::byte(text, i), words, state);
+// The next line of the input, of which no more is kept than the longest line has. It is empty at the end.
+fn read_line(input: &mut impl BufRead, line: &mut Vec<u8>) -> io::Result<()> {
+    line.clear();
+    let kept = Read::take(input.by_ref(), MOST_BYTES as u64).read_until(b'\n', line)?;
+    if kept == MOST_BYTES && !line.ends_with(b"\n") {
+        input.skip_until(b'\n')?;
     }
+    Ok(())
 }
 
-// Reads on, and answers whether there may be more.
-fn read_some(line: &mut [u8; 1600], words: &mut [u32; 8192], state: &mut [u64; 48]) -> bool {
-    let mut text = io::large_buffer();
-    let n = io::read_full(0, &mut text);
-    push_all(&text[..n], line, words, state);
-    n == 65536
-}
-
-// Reads the input to its end. A proved loop has to end: so it counts its turns down, from a number that no run uses up.
-fn read_all(line: &mut [u8; 1600], words: &mut [u32; 8192], state: &mut [u64; 48]) {
-    let mut turns = u64::MAX;
-    while turns > 0 && read_some(line, words, state) {
-        turns -= 1;
+// Reads to the end of the input, or to where it can't be read: what was read till then counts. A proved loop has to end, and nothing says
+// that an input does: so it has a number of turns that no input uses up.
+fn main(rt: HostRuntime) -> io::Result<()> {
+    let alloc = rt.alloc();
+    let mut input = BufReader::new(alloc, rt.reader())?;
+    let mut line = Vec::with_capacity(alloc, MOST_BYTES)?;
+    let mut words = [7u32; WORDS];
+    let mut counts = Counts::default();
+    for _ in 0..u64::MAX {
+        let read = read_line(&mut input, &mut line);
+        if !line.is_empty() {
+            counts.count(try_line(alloc, &line, &mut words))?;
+        }
+        if line.is_empty() || read.is_err() {
+            break;
+        }
     }
-}
-
-// The memory is never cleared: each frame is labelled in words that the one before left.
-fn main() {
-    let mut line = [0u8; 1600];
-    let mut words = [7u32; 8192];
-    let mut state = [0u64; 48];
-    read_all(&mut line, &mut words, &mut state);
-    try_rest(&mut state);
-    tally::report(
-        &state,
-        b"answers=#\nagreed=#\ndiffered=#\nmalformed=#\nrank1=#\nrank2=#\nrank3=#\nrank4=#\nnone=#\nfirst_differed=#\nfirst_malformed=#\n",
-        ANSWERS,
-    );
-}
-
-// What stands after the last byte 10 does not have the form.
-fn try_rest(state: &mut [u64; 48]) {
-    if state[LENGTH] != 0 {
-        add(state, LINE);
-        tell(state, MALFORMED);
-    }
+    counts.report(&rt)
 }

@@ -1,7 +1,7 @@
 -- Boundaries: those of a line are its runs' starts and ends, and to write them one after the other is to write the runs.
 -- Assumes nothing.
 use mathlib.Core.Bool.{Bool, true, false}
-use mathlib.Core.Path.{◌≡◌, refl, sym, ap, ◌∙◌, transport}
+use mathlib.Core.Path.{◌≡◌, refl, sym, ap, ◌∙◌, subst}
 use mathlib.Core.List.{List, [], ◌∷◌, ◌++◌}
 use Prim.Native.Nat.{ℕ, suc, ◌+◌, ◌*◌, ◌<◌}
 use native.Mathlib.Omega.{arith}
@@ -10,7 +10,11 @@ use Rattle.frame.specs.Memory.{stride}
 use Rattle.frame.specs.Words.{start_at, end_at}
 use Rattle.frame.specs.Runs.{Run, stretches, singles, line_runs}
 use Rattle.runs.specs.Extract.{put_runs}
-use Rattle.runs.specs.Boundaries.{boundary_at, put_boundaries, BoundaryRoom, Put, Next, Took, places}
+use denote.Ref.{at_last}
+use denote.MutBor.{MutBor}
+use Rattle.runs.specs.declared.Boundaries.{Boundaries}
+use Rattle.runs.specs.Boundaries.{boundary_at, put_boundaries, BoundaryRoom, places}
+use Rattle.runs.specs.Writing.{Fits, Writes, Took}
 
 -- ---- of runs
 
@@ -103,70 +107,62 @@ put_append (e ∷ es) r ws i k =
     put_append es r (set ws (boundary_at i k) e) i (suc k)
     ∙ ap (λ (a : ℕ). put_boundaries (put_boundaries (set ws (boundary_at i k) e) i (suc k) es) i a r) n
 
--- What is left: the boundaries es, from boundary k on, written into ws, give what es₀ from k₀ on give in ws₀
-pub record Rest (ws₀ : List ℕ) (i k₀ : ℕ) (es₀ : List ℕ) (ws : List ℕ) (k : ℕ) (es : List ℕ) : Type 0 where
-  pub words : put_boundaries ws i k es ≡ put_boundaries ws₀ i k₀ es₀
-  pub count : k + length es ≡ k₀ + length es₀
-  pub long : length ws ≡ length ws₀
+-- What is left: the boundaries es, written next, give what es₀ from the start on give
+pub record Rest (b₀ : Boundaries) (es₀ : List ℕ) (b : Boundaries) (es : List ℕ) : Type 0 where
+  pub words : put_boundaries b.words.now b₀.at b.count es ≡ put_boundaries b₀.words.now b₀.at b₀.count es₀
+  pub count : b.count + length es ≡ b₀.count + length es₀
+  pub long : length b.words.now ≡ length b₀.words.now
+  pub same : b.at ≡ b₀.at
+  pub held : b.words ≡ at_last b₀.words b.words.now
 
-pub rest_all : (ws : List ℕ) (i k : ℕ) (es : List ℕ) → Rest ws i k es ws k es
-rest_all ws i k es = record { words = refl; count = refl; long = refl }
+pub rest_all : (b : Boundaries) (es : List ℕ) → Rest b es b es
+rest_all b es = record { words = refl; count = refl; long = refl; same = refl; held = refl }
 
--- the same, at equal words, boundary and rest
-pub rest_same : {ws₀ : List ℕ} {i k₀ : ℕ} {es₀ ws ws' : List ℕ} {k k' : ℕ} {es es' : List ℕ} → ws ≡ ws' → k ≡ k' → es ≡ es'
-    → Rest ws₀ i k₀ es₀ ws k es → Rest ws₀ i k₀ es₀ ws' k' es'
-rest_same {ws₀} {i} {k₀} {es₀} p q r h = transport (λ j. Rest ws₀ i k₀ es₀ (p j) (q j) (r j)) h
+-- there is room for the next boundary
+pub fits_next : {ws : List ℕ} {i k x e : ℕ} {es : List ℕ} → BoundaryRoom ws i k x (e ∷ es) → boundary_at i k < length ws
+fits_next f = omega (arith, f.below, f.room)
 
-module _ {ws₀ : List ℕ} {i k₀ : ℕ} {es₀ ws : List ℕ} {k : ℕ} where
-  -- the next boundary is written
-  pub rest_one : {e : ℕ} {es : List ℕ} → Rest ws₀ i k₀ es₀ ws k (e ∷ es) → Rest ws₀ i k₀ es₀ (set ws (boundary_at i k) e) (k + 1) es
-  unfolding put_boundaries
-  rest_one {e} {es} h =
-      let q : k + 1 ≡ suc k = omega arith in
+-- and for the first of several
+pub fits_part : {ws : List ℕ} {i k x : ℕ} (es r : List ℕ) → BoundaryRoom ws i k x (es ++ r) → BoundaryRoom ws i k x es
+fits_part es r f = record { runs = f.runs; below = omega (arith, length-append es r, f.below); room = f.room; short = f.short }
+
+module _ {b₀ : Boundaries} {es₀ : List ℕ} {b : Boundaries} where
+  -- the same, as it is written elsewhere
+  pub rest_same : {es es' : List ℕ} → es ≡ es' → Rest b₀ es₀ b es → Rest b₀ es₀ b es'
+  rest_same e h = subst (Rest b₀ es₀ b) e h
+
+  -- several boundaries are written
+  pub rest_put : {b' : Boundaries} (es r : List ℕ) → Rest b₀ es₀ b (es ++ r) → Writes es b b' → Rest b₀ es₀ b' r
+  rest_put {b'} es r h w =
       let n = h.count in
+      let m = length-append es r in
+      let p = w.put.next in
       record {
-        words = ap (λ (a : ℕ). put_boundaries (set ws (boundary_at i k) e) i a es) q ∙ h.words;
+        words = rw (w.put.written, w.put.next, h.same) (sym (put_append es r b.words.now b₀.at b.count) ∙ h.words);
         count = omega arith;
-        long = length-set ws (boundary_at i k) e ∙ h.long;
+        long = ap length w.put.written ∙ length_put es b.words.now b.at b.count ∙ h.long;
+        same = w.same ∙ h.same;
+        held = w.held ∙ ap (λ (o : MutBor (List ℕ)). at_last o b'.words.now) h.held;
       }
 
-  -- there is room for it
-  pub rest_room : {e : ℕ} {es : List ℕ} (x : ℕ) → Rest ws₀ i k₀ es₀ ws k (e ∷ es) → BoundaryRoom ws₀ i k₀ x es₀ → boundary_at i k < length ws
-  rest_room x h f = let n = h.count in let m = h.long in let b = f.below in let r = f.room in omega arith
+  pub rest_one : {b' : Boundaries} {e : ℕ} {es : List ℕ} → Rest b₀ es₀ b (e ∷ es) → Writes (e ∷ []) b b' → Rest b₀ es₀ b' es
+  rest_one {e = e} {es = es} h w = rest_put (e ∷ []) es h w
 
-  -- several are
-  pub rest_put : {ws' : List ℕ} {k' : ℕ} (es r : List ℕ) → Rest ws₀ i k₀ es₀ ws k (es ++ r) → Put ws ws' i k k' es
-      → Rest ws₀ i k₀ es₀ ws' k' r
-  rest_put es r h p =
+  -- there is room for all that is left
+  pub rest_fits : {x : ℕ} {es : List ℕ} → Rest b₀ es₀ b es → Fits b₀ x es₀ → Fits b x es
+  rest_fits h f =
       let n = h.count in
-      let m = length-append es r in
-      rest_same (sym p.written) (sym p.next) refl
-      (record { words = sym (put_append es r ws i k) ∙ h.words; count = omega arith; long = length_put es ws i k ∙ h.long })
-
-  -- there is room for them
-  pub rest_fits : (x : ℕ) (es r : List ℕ) → Rest ws₀ i k₀ es₀ ws k (es ++ r) → BoundaryRoom ws₀ i k₀ x es₀ → BoundaryRoom ws i k x es
-  rest_fits x es r h f =
-      let n = h.count in
-      let m = length-append es r in
       let l = h.long in
-      let b = f.below in
-      let o = f.room in
-      record { runs = f.runs; below = omega arith; room = omega arith; short = f.short }
+      let s = h.same in
+      record { runs = f.runs; below = omega (arith, f.below); room = omega (arith, f.room); short = f.short }
 
   -- the places of a number's set bits, and of those the next
-  pub rest_took : {ws' : List ℕ} (x e e' : ℕ) → Rest ws₀ i k₀ es₀ ws k (places 64 e x) → Took ws ws' i k x e e'
-      → Rest ws₀ i k₀ es₀ ws' (k + 1) (places 64 e' x)
-  rest_took x e e' h s = rest_same (sym s.written) refl refl (rest_one (rest_same refl refl s.lowest h))
-
-  pub rest_next : (x e : ℕ) → 0 < e → Rest ws₀ i k₀ es₀ ws k (places 64 e x) → BoundaryRoom ws₀ i k₀ x es₀ → Next ws i k x e
-  rest_next x e p h f =
-      let n = h.count in
-      let l = h.long in
-      let b = f.below in
-      let o = f.room in
-      record { some = p; fits = record { runs = f.runs; below = omega arith; room = omega arith; short = f.short } }
+  pub rest_took : {b' : Boundaries} {x e e' : ℕ} → Rest b₀ es₀ b (places 64 e x) → Took b b' e x e' → Rest b₀ es₀ b' (places 64 e' x)
+  rest_took h t = rest_one (rest_same t.lowest h) t.writes
 
   -- none is left
-  pub rest_none : Rest ws₀ i k₀ es₀ ws k [] → Put ws₀ ws i k₀ k es₀
+  pub rest_none : Rest b₀ es₀ b [] → Writes es₀ b₀ b
   unfolding put_boundaries
-  rest_none h = let n = h.count in record { next = omega arith; written = h.words }
+  rest_none h =
+      let n = h.count in
+      record { put = record { next = omega arith; written = h.words }; same = h.same; held = h.held }

@@ -1,7 +1,7 @@
 -- A line by chunks of 64 cells: the boundaries and the nonzero cells that a chunk's mask gives, and then those of the rest of the line.
 -- Assumes nothing.
 use mathlib.Core.Bool.{Bool, true, false}
-use mathlib.Core.Path.{◌≡◌, refl, sym, ap, ap₂, ◌∙◌}
+use mathlib.Core.Path.{◌≡◌, refl, sym, ap, ap₂, ◌∙◌, subst}
 use mathlib.Core.List.{List, [], ◌∷◌, ◌++◌}
 use Prim.Native.Nat.{ℕ, zero, suc, ◌+◌, ◌*◌, ◌/◌, ◌%◌, ◌^◌, ◌≤◌, ◌<◌}
 use native.Mathlib.Nat.{add-zero}
@@ -16,11 +16,13 @@ use Rattle.frame.specs.Runs.{nonzero_cells, line_runs}
 use Rattle.frame.proofs.CellLaws.{cells_none, cells_most}
 use Rattle.runs.specs.Extract.{Room, Extracted}
 use Rattle.runs.specs.Masks.{bit, mask_of}
-use Rattle.runs.specs.Boundaries.{BoundaryRoom, Put, cons_if, places, alone, edge_bits, chunk_boundaries}
+use Rattle.runs.specs.Boundaries.{put_boundaries, cons_if, places, alone, edge_bits, chunk_boundaries}
+use Rattle.runs.specs.declared.Boundaries.{Boundaries}
+use Rattle.runs.specs.Writing.{Fits, Writes}
 use Rattle.runs.proofs.MaskLaws.{bit_lt, mask_nil, mask_lt, places_zero, places_cons, top, moved}
 use Rattle.runs.proofs.ChunkCellLaws.{chunk_cells_lem}
 use Rattle.runs.proofs.BoundaryLaws.{line_boundaries, boundaries_of, length_boundaries, put_boundaries_lem, line_boundaries_lem, none_past}
-use Rattle.runs.proofs.BoundaryLaws.{Rest, rest_all, rest_same, rest_put, rest_fits, rest_none}
+use Rattle.runs.proofs.BoundaryLaws.{Rest, rest_all, rest_same, rest_put, rest_fits, rest_none, fits_part}
 
 -- ---- bits and flags
 
@@ -139,53 +141,61 @@ chunk_split false x m carry l h e =
     alone_split 64 (nz carry) (nz (m / 2 ^ 63)) x l
     ∙ ap (λ (n : ℕ). alone (places 64 n x) ++ line_boundaries false (nz (m / 2 ^ 63)) (x + 64) (drop 64 l)) (sym e)
 
-pub chunk_edges : (left : Bool) (m carry x : ℕ) → left ≡ true → chunk_boundaries left m carry x ≡ places 64 (edge_bits m carry) x
+pub chunk_edges : {left : Bool} {e : ℕ} (m carry x : ℕ) → left ≡ true → e ≡ edge_bits m carry
+    → chunk_boundaries left m carry x ≡ places 64 e x
 unfolding chunk_boundaries
-chunk_edges left m carry x e = ap (λ (b : Bool). chunk_boundaries b m carry x) e
+chunk_edges m carry x l e = ap (λ (b : Bool). chunk_boundaries b m carry x) l ∙ ap (λ (n : ℕ). places 64 n x) (sym e)
 
-pub chunk_alone : (left : Bool) (m carry x : ℕ) → left ≡ false → chunk_boundaries left m carry x ≡ alone (places 64 m x)
+pub chunk_alone : {left : Bool} (m carry x : ℕ) → left ≡ false → chunk_boundaries left m carry x ≡ alone (places 64 m x)
 unfolding chunk_boundaries
-chunk_alone left m carry x e = ap (λ (b : Bool). chunk_boundaries b m carry x) e
+chunk_alone m carry x l = ap (λ (b : Bool). chunk_boundaries b m carry x) l
 
 -- ---- the loop over chunks
 
 -- at column x: what is left to be written is the boundaries from there on, and what is left to be counted the cells
-pub record Going (left : Bool) (flags : List Bool) (ws₀ : List ℕ) (i : ℕ) (ws : List ℕ) (k cells carry x : ℕ) : Type 0 where
+pub record Going (left : Bool) (flags : List Bool) (b₀ b : Boundaries) (cells carry x : ℕ) : Type 0 where
+  pub first : b₀.count ≡ 0
   pub carried : carry < 2
   pub inside : x ≤ length flags
   pub counted : cells + nonzero_cells (drop x flags) ≡ nonzero_cells flags
-  pub rest : Rest ws₀ i 0 (boundaries_of (line_runs left flags)) ws k (line_boundaries left (nz carry) x (drop x flags))
+  pub rest : Rest b₀ (boundaries_of (line_runs left flags)) b (line_boundaries left (nz carry) x (drop x flags))
 
-module _ {left : Bool} {flags : List Bool} {ws₀ : List ℕ} {i : ℕ} where
-  room_fits : (x : ℕ) → x ≤ length flags → Room left flags ws₀ i → BoundaryRoom ws₀ i 0 x (boundaries_of (line_runs left flags))
-  room_fits x h r =
-      let n = length_boundaries (line_runs left flags) in
-      let o = r.room in
-      let s = r.short in
-      record { runs = length (line_runs left flags); below = omega arith; room = omega arith; short = omega arith }
-
-  pub going_begin : Going left flags ws₀ i ws₀ 0 0 0 0
+module _ {left : Bool} {flags : List Bool} {b₀ : Boundaries} where
+  pub going_begin : b₀.count ≡ 0 → Going left flags b₀ b₀ 0 0 0
   unfolding nz
-  going_begin = record {
+  going_begin e = record {
+    first = e;
     carried = omega arith;
     inside = omega arith;
     counted = omega arith;
-    rest = rest_same refl refl (sym (line_boundaries_lem left flags)) (rest_all ws₀ i 0 (boundaries_of (line_runs left flags)));
+    rest = rest_same (sym (line_boundaries_lem left flags)) (rest_all b₀ (boundaries_of (line_runs left flags)));
   }
 
-  module _ {ws : List ℕ} {k cells carry x : ℕ} (g : Going left flags ws₀ i ws k cells carry x) where
+  -- the same column, as it is written elsewhere
+  pub going_at : {b : Boundaries} {cells carry x y : ℕ} → x ≡ y → Going left flags b₀ b cells carry x → Going left flags b₀ b cells carry y
+  going_at {b} {cells} {carry} e g = subst (Going left flags b₀ b cells carry) e g
+
+  module _ {b : Boundaries} {cells carry x : ℕ} (g : Going left flags b₀ b cells carry x) where
     split : (m : ℕ) → m ≡ mask_of 64 (drop x flags)
-        → Rest ws₀ i 0 (boundaries_of (line_runs left flags)) ws k
+        → Rest b₀ (boundaries_of (line_runs left flags)) b
         (chunk_boundaries left m carry x ++ line_boundaries left (nz (m / 2 ^ 63)) (x + 64) (drop (x + 64) flags))
     split m e =
-        rest_same refl refl
+        rest_same
         (chunk_split left x m carry (drop x flags) g.carried e
         ∙ ap (λ (l : List Bool). chunk_boundaries left m carry x ++ line_boundaries left (nz (m / 2 ^ 63)) (x + 64) l) (drop-drop 64 x flags))
         g.rest
 
+    line_fits : Room left flags b₀.words.now b₀.at → Fits b₀ x (boundaries_of (line_runs left flags))
+    line_fits r =
+        let n = length_boundaries (line_runs left flags) in
+        let f = g.first in
+        let i = g.inside in
+        record { runs = length (line_runs left flags); below = omega arith; room = omega (arith, r.room); short = omega (arith, r.short) }
+
     -- the next chunk's boundaries have room
-    pub going_fits : (m : ℕ) → m ≡ mask_of 64 (drop x flags) → Room left flags ws₀ i → BoundaryRoom ws i k x (chunk_boundaries left m carry x)
-    going_fits m e r = rest_fits x (chunk_boundaries left m carry x) _ (split m e) (room_fits x g.inside r)
+    pub going_fits : (m : ℕ) → m ≡ mask_of 64 (drop x flags) → Room left flags b₀.words.now b₀.at
+        → Fits b x (chunk_boundaries left m carry x)
+    going_fits m e r = fits_part (chunk_boundaries left m carry x) _ (rest_fits (split m e) (line_fits r))
 
     -- the cells so far, those of the next chunk and those of the rest are all of the line's
     cells_then : (m : ℕ) → m ≡ mask_of 64 (drop x flags) → cells + ones m + nonzero_cells (drop (x + 64) flags) ≡ nonzero_cells flags
@@ -194,17 +204,17 @@ module _ {left : Bool} {flags : List Bool} {ws₀ : List ℕ} {i : ℕ} where
         omega (arith, g.counted, chunk_cells_lem m (drop x flags) e)
 
     -- with the next chunk's the sum is small
-    pub going_sum : {n : ℕ} (m : ℕ) → m ≡ mask_of 64 (drop x flags) → n ≡ ones m → Room left flags ws₀ i → cells + n < 2147483647
+    pub going_sum : {n : ℕ} (m : ℕ) → m ≡ mask_of 64 (drop x flags) → n ≡ ones m → Room left flags b₀.words.now b₀.at → cells + n < 2147483647
     going_sum m e o r = omega (arith, r.short, cells_then m e, cells_most flags)
 
     -- the next chunk's boundaries are written, and its cells counted
-    pub going_turn : {ws' : List ℕ} {k' n : ℕ} (m : ℕ) → m ≡ mask_of 64 (drop x flags) → x + 64 ≤ length flags
-        → Put ws ws' i k k' (chunk_boundaries left m carry x) → n ≡ ones m
-        → Going left flags ws₀ i ws' k' (cells + n) (m / 2 ^ 63) (x + 64)
+    pub going_turn : {b' : Boundaries} {n : ℕ} (m : ℕ) → m ≡ mask_of 64 (drop x flags) → x + 64 ≤ length flags
+        → Writes (chunk_boundaries left m carry x) b b' → n ≡ ones m → Going left flags b₀ b' (cells + n) (m / 2 ^ 63) (x + 64)
     going_turn m e h p o =
         let t = mask_lt 64 (drop x flags) in
         let c : m / 2 ^ 63 < 2 = omega arith in
         record {
+          first = g.first;
           carried = c;
           inside = omega arith;
           counted = omega (arith, cells_then m e);
@@ -222,17 +232,23 @@ module _ {left : Bool} {flags : List Bool} {ws₀ : List ℕ} {i : ℕ} where
         ap₂ (λ (c : ℕ) (l : List Bool). line_boundaries left (nz c) (x + 64) l) z (drop_of_length-le flags {i = x + 64} (omega arith))
         ∙ none_past left (x + 64)
 
-    pub going_end : {ws' : List ℕ} {k' n : ℕ} (m : ℕ) → m ≡ mask_of 64 (drop x flags) → length flags < x + 64
-        → Put ws ws' i k k' (chunk_boundaries left m carry x) → n ≡ ones m
-        → Extracted left flags ws₀ ws' i (record { runs = k' / 2; cells = cells + n })
+    pub going_done : {b' : Boundaries} (m : ℕ) → m ≡ mask_of 64 (drop x flags) → length flags < x + 64
+        → Writes (chunk_boundaries left m carry x) b b' → Writes (boundaries_of (line_runs left flags)) b₀ b'
+    going_done m e h p = rest_none (rest_same (past m e h) (rest_put (chunk_boundaries left m carry x) _ (split m e) p))
+
+    pub going_end : {b' : Boundaries} {n : ℕ} (m : ℕ) → m ≡ mask_of 64 (drop x flags) → length flags < x + 64
+        → Writes (chunk_boundaries left m carry x) b b' → n ≡ ones m
+        → Extracted left flags b₀.words.now b'.words.now b₀.at (record { runs = b'.count / 2; cells = cells + n })
     going_end m e h p o =
-        let r = rest_none (rest_same refl refl (past m e h) (rest_put (chunk_boundaries left m carry x) _ (split m e) p)) in
+        let r = going_done m e h p in
+        let q = r.put.next in
+        let f = g.first in
         let s = length_boundaries (line_runs left flags) in
-        let q = r.next in
         let d : drop (x + 64) flags ≡ [] = drop_of_length-le flags {i = x + 64} (omega arith) in
         let z : nonzero_cells (drop (x + 64) flags) ≡ 0 = ap nonzero_cells d ∙ cells_none in
         record {
           counted = omega arith;
           total = omega (arith, cells_then m e);
-          written = r.written ∙ put_boundaries_lem (line_runs left flags) ws₀ i;
+          written = r.put.written ∙ ap (λ (k : ℕ). put_boundaries b₀.words.now b₀.at k (boundaries_of (line_runs left flags))) g.first
+              ∙ put_boundaries_lem (line_runs left flags) b₀.words.now b₀.at;
         }

@@ -10,7 +10,8 @@ use native.Mathlib.Numerals.{add-one}
 use native.Mathlib.Omega.{arith}
 use native.Mathlib.Decide.{dec_lt}
 use lib.Arith.{digits_div, digits_mod}
-use lib.ListN.{length, get_or, set, drop, get_or-map}
+use lib.ListN.{length, get_or, set, take, drop, get_or-map, length-drop, length-map}
+use borrow.Rule.Slice.PartMut.{mid_of}
 use lib.Seq.{get_or-drop, get_or-set_same, get_or-set_other}
 use lib.Pow.{shl_exact}
 use lib.Count.{count_trailing_zeros, under}
@@ -119,9 +120,43 @@ byte_turn l j m p h e g =
     ∙ or_shifted_r (mask_of 8 (drop j l)) j (mask_of j l) (mask_lt j l)
     ∙ sym (mask_cat j 8 l)
 
--- bytes that show a line's flags have their mask
-pub shows_mask : (flags : List Bool) (x : ℕ) (b : List ℕ) → Shows flags x b 64 → mask_of 64 (map nz b) ≡ mask_of 64 (drop x flags)
-shows_mask flags x b h = mask_agree 64 (map nz b) (drop x flags) (λ i p. sym (flag_at b i) ∙ h i p ∙ sym (get_or-drop x flags i false))
+-- bytes that show flags have their mask
+pub shows_mask : (flags : List Bool) (b : List ℕ) → Shows flags b 64 → mask_of 64 (map nz b) ≡ mask_of 64 flags
+shows_mask flags b h = mask_agree 64 (map nz b) flags (λ i p. sym (flag_at b i) ∙ h i p)
+
+-- the mask of the first n flags, where those are all or as many as it has bits
+mask_take : (k n : ℕ) (l : List Bool) → min k (length l) ≤ n → mask_of k (take n l) ≡ mask_of k l
+unfolding mask_of
+mask_take zero n l h = refl
+mask_take (suc k) zero [] h = refl
+mask_take (suc k) (suc n) [] h = refl
+mask_take (suc k) zero (b ∷ l) h = absurd (omega arith)
+mask_take (suc k) (suc n) (b ∷ l) h = ap (λ (m : ℕ). m * 2 + bit b) (mask_take k n l (omega arith))
+
+module _ {A : Type 0} (f : A → Bool) where
+  map_take : (n : ℕ) (cells : List A) → map f (take n cells) ≡ take n (map f cells)
+  map_take zero cells = refl
+  map_take (suc n) [] = refl
+  map_take (suc n) (c ∷ cells) = ap (λ (l : List Bool). f c ∷ l) (map_take n cells)
+
+  map_drop : (n : ℕ) (cells : List A) → map f (drop n cells) ≡ drop n (map f cells)
+  map_drop zero cells = refl
+  map_drop (suc n) [] = refl
+  map_drop (suc n) (c ∷ cells) = map_drop n cells
+
+  -- the mask of the chunk from x on: of n cells, where those are 64 or all that are left
+  chunk_mask : (cells : List A) (x n : ℕ) → min 64 (length cells - x) ≤ n
+      → mask_of 64 (map f (take n (drop x cells))) ≡ mask_of 64 (drop x (map f cells))
+  chunk_mask cells x n h =
+      let l = length-drop x (map f cells) in
+      let w = length-map cells f in
+      ap (mask_of 64) (map_take n (drop x cells) ∙ ap (take n) (map_drop x cells)) ∙ mask_take 64 n (drop x (map f cells)) (omega arith)
+
+  pub whole_mask : (cells : List A) (x : ℕ) → mask_of 64 (map f (mid_of x (x + 64 - x) cells)) ≡ mask_of 64 (drop x (map f cells))
+  whole_mask cells x = chunk_mask cells x (x + 64 - x) (omega arith)
+
+  pub last_mask : (cells : List A) (x : ℕ) → mask_of 64 (map f (mid_of x (length cells - x) cells)) ≡ mask_of 64 (drop x (map f cells))
+  last_mask cells x = chunk_mask cells x (length cells - x) (omega arith)
 
 -- ---- the places of the set bits
 
@@ -183,15 +218,17 @@ lowest (suc k) e x p q = go (parity e) (lowest k (e / 2) (suc x))
         (sym (places_double k (e / 2) x) ∙ ap (λ (n : ℕ). places (suc k) n x) (sym (odd_clear e h)))
 
 -- the next place of 64 bits, and the next two boundaries where each place is a run of its own
-pub next_place : (e x : ℕ) → (e ≡ 0 → ⊥) → e < 2 ^ 64 → places 64 e x ≡ (x + count_trailing_zeros 64 e) ∷ places 64 (bit_and e (e - 1)) x
-next_place e x p q = lowest 64 e x (omega arith) q
+pub next_place : (e x : ℕ) {p : ℕ} → p ≡ x + count_trailing_zeros 64 e → (e ≡ 0 → ⊥) → e < 2 ^ 64
+    → places 64 e x ≡ p ∷ places 64 (bit_and e (e - 1)) x
+next_place e x is some h =
+    lowest 64 e x (omega arith) h ∙ ap (λ (n : ℕ). n ∷ places 64 (bit_and e (e - 1)) x) (sym is)
 
-pub next_alone : (m x : ℕ) → (m ≡ 0 → ⊥) → m < 2 ^ 64
-    → alone (places 64 m x) ≡ (x + count_trailing_zeros 64 m) ∷ (x + count_trailing_zeros 64 m + 1) ∷ alone (places 64 (bit_and m (m - 1)) x)
+pub next_alone : (m x : ℕ) {p : ℕ} → p ≡ x + count_trailing_zeros 64 m → (m ≡ 0 → ⊥) → m < 2 ^ 64
+    → alone (places 64 m x) ≡ p ∷ (p + 1) ∷ alone (places 64 (bit_and m (m - 1)) x)
 unfolding alone
-next_alone m x p q =
-    ap alone (next_place m x p q)
-    ∙ ap (λ (n : ℕ). (x + count_trailing_zeros 64 m) ∷ n ∷ alone (places 64 (bit_and m (m - 1)) x)) (sym (add-one (x + count_trailing_zeros 64 m)))
+next_alone m x {p} is some h =
+    ap alone (next_place m x is some h)
+    ∙ ap (λ (n : ℕ). p ∷ n ∷ alone (places 64 (bit_and m (m - 1)) x)) (sym (add-one p))
 
 -- no bit is set
 pub no_place : (e x : ℕ) → e ≡ 0 → places 64 e x ≡ []

@@ -39,17 +39,6 @@ unfoldable pub places : ℕ → ℕ → ℕ → List ℕ
 places zero e x = []
 places (suc k) e x = cons_if (e % 2) x (places k (e / 2) (suc x))
 
--- what writing the lowest of them as boundary k asks, and what it does: e' is e without that bit
-pub record Next (ws : List ℕ) (i k x e : ℕ) : Type 0 where
-  pub some : 0 < e
-  pub fits : BoundaryRoom ws i k x (places 64 e x)
-
-pub record Took (ws ws' : List ℕ) (i k x e e' : ℕ) : Type 0 where
-  pub place : ℕ
-  pub lowest : places 64 e x ≡ place ∷ places 64 e' x
-  pub written : ws' ≡ set ws (boundary_at i k) place
-  pub less : e' < e
-
 -- each place and the next: where each is a run of its own
 unfoldable pub alone : List ℕ → List ℕ
 alone [] = []

@@ -2,3 +2,4 @@
 pub mod Extract
 pub mod Masks
 pub mod Boundaries
+pub mod Writing

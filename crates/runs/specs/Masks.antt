@@ -1,6 +1,6 @@
 -- Masks: numbers whose bits are the flags of a chunk, which is 64 cells.
 -- Assumes nothing.
-use Rattle.std.specs.Prelude.{◌≡◌, Bool, true, false, List, [], ◌∷◌, ℕ, zero, suc, ◌+◌, ◌*◌, ◌-◌, ◌%◌, ◌^◌, ◌≤◌, ◌<◌, min, get_or}
+use Rattle.std.specs.Prelude.{◌≡◌, Bool, true, false, List, [], ◌∷◌, ℕ, zero, suc, ◌+◌, ◌*◌, ◌%◌, ◌^◌, ◌<◌, get_or}
 use Rattle.frame.specs.Kinds.{nz}
 
 abbrev pub bit : Bool → ℕ
@@ -13,14 +13,9 @@ mask_of zero l = 0
 mask_of (suc k) [] = 0
 mask_of (suc k) (b ∷ l) = mask_of k l * 2 + bit b
 
--- n is how many cells of the chunk from column x on are in a line of w cells
-pub record Part (w x n : ℕ) : Type 0 where
-  pub inside : x ≤ w
-  pub many : n ≡ min 64 (w - x)
-
--- the first n bytes of b show the flags from column x on: a byte is nonzero exactly where its flag is set, and zero past the line
-abbrev pub Shows : List Bool → ℕ → List ℕ → ℕ → Type 0
-Shows flags x b n = (i : ℕ) → i < n → nz (get_or b i 0) ≡ get_or flags (x + i) false
+-- the first n bytes of b show flags: a byte is nonzero exactly where its flag is set, and zero past them
+abbrev pub Shows : List Bool → List ℕ → ℕ → Type 0
+Shows flags b n = (i : ℕ) → i < n → nz (get_or b i 0) ≡ get_or flags i false
 
 -- the first n bytes of t are the weights of flags: 0 where the flag is false, else 2 to the power of its place among eight
 abbrev pub Weighs : List Bool → List ℕ → ℕ → Type 0

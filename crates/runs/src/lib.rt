@@ -1,17 +1,18 @@
-// The runs of a line, for each kind of cell.
+// The runs of a line, for each kind of cell: `extract_line` stands for the Rust's extract_line, extract_scalar and extract_bytes.
 //
-// Promised of each extract_line (specs/Extract.antt): the answer counts the line's runs, as `line_runs` lists them, and its nonzero cells;
+// Promised of it (specs/Extract.antt): the answer counts the line's runs, as `line_runs` lists them, and its nonzero cells;
 // each run's start and end are written to the lent words, in order, STRIDE words apart from place `at` on. Every other word stands.
 //
-// A line is taken by chunks of 64 cells, each by a mask with a bit for each cell. A kind of cell differs only in how its mask is made.
+// A line is taken by chunks of 64 cells, each by a mask with a bit for each cell. A kind of cell says which of its values are nonzero.
 #![tactic(auto)]
 
-ghost use Rattle.std.specs.Prelude.{◌≡◌, Bool, List, map, ◌+◌, ◌<◌, length, drop, set};
+ghost use Rattle.std.specs.Prelude.{◌≡◌, Bool, List, [], ◌∷◌, map, ◌+◌, ◌≤◌, ◌<◌, length, drop};
 ghost use Rattle.std.specs.Int.Count.{ones, count_trailing_zeros};
 ghost use Rattle.frame.specs.Kinds.{nz, nzℤ, nz_f};
 ghost use Rattle.runs.specs.Extract.{Room, Extracted};
-ghost use Rattle.runs.specs.Masks.{mask_of, Part, Shows, Weighs, Eight};
-ghost use Rattle.runs.specs.Boundaries.{boundary_at, BoundaryRoom, Put, Next, Took, places, alone, chunk_boundaries};
+ghost use Rattle.runs.specs.Masks.{mask_of, Shows, Weighs, Eight};
+ghost use Rattle.runs.specs.Boundaries.{places, alone, edge_bits, chunk_boundaries};
+ghost use Rattle.runs.specs.Writing.{Fits, FitsNext, Writes, Took};
 
 // How many runs a line has, or several lines, and how many nonzero cells.
 #[derive(Clone, Copy)]
@@ -20,237 +21,140 @@ pub struct Counts {
     pub cells: usize,
 }
 
-// ---- lines of each kind. With `left` (the left byte is nonzero) each maximal stretch of nonzero cells is a run, else each such cell.
+// ---- kinds of cells
+
+// A kind of cell, as the Rust's `Nz`: which of its values are nonzero.
+pub trait Nz: Copy {
+    // Whether the bytes of 64 cells are stored eight at each turn: f32 is twice as fast so, and u16 and i16 twice as slow, as measured.
+    const BY_EIGHTS: bool;
+
+    ghost nonzero: { Self → Bool };
+
+    // A byte that is nonzero exactly where the cell is.
+    fn byte(self) -> u8
+        ensures { nz result ≡ nonzero self };
+}
+
+impl Nz for u8 {
+    const BY_EIGHTS: bool = false;
+
+    ghost nonzero = { nz };
+
+    fn byte(self) -> u8 {
+        self
+    }
+}
+
+impl Nz for u16 {
+    const BY_EIGHTS: bool = false;
+
+    ghost nonzero = { nz };
+
+    fn byte(self) -> u8 {
+        (self != 0) as u8
+    }
+}
+
+impl Nz for i16 {
+    const BY_EIGHTS: bool = false;
+
+    ghost nonzero = { nzℤ };
+
+    fn byte(self) -> u8 {
+        (self != 0) as u8
+    }
+}
+
+// Zero when it is +0.0 or -0.0; NaN is nonzero.
+impl Nz for f32 {
+    const BY_EIGHTS: bool = true;
+
+    ghost nonzero = { nz_f };
+
+    fn byte(self) -> u8 {
+        (self != 0.0) as u8
+    }
+}
+
+// ---- lines. With `left` (the left byte is nonzero) each maximal stretch of nonzero cells is a run, else each such cell.
 // Of the last chunk fewer than 64 cells are in the line, or none: a zero follows them, so that a run that reaches the line's end ends there
 
-pub fn extract_line_u8(line: &[u8], left: bool, words: &mut [u32], at: usize) -> Counts
-    requires { Room left (map nz line.now) words.old at }
-    ensures { Extracted left (map nz line.now) words.old words.new at result }
+pub fn extract_line<T: Nz>(line: &[T], left: bool, words: &mut [u32], at: usize) -> Counts
+    requires { Room left (map T.nonzero line.now) words.old at }
+    ensures { Extracted left (map T.nonzero line.now) words.old words.new at result }
 {
-    extract_bytes(line, left, words, at)
-}
-
-// Bytes, as the Rust's; here with the left byte zero too.
-pub fn extract_bytes(line: &[u8], left: bool, words: &mut [u32], at: usize) -> Counts
-    requires { Room left (map nz line.now) words.old at }
-    ensures { Extracted left (map nz line.now) words.old words.new at result }
-{
-    let n = line.len();
-    let mut k: usize = 0;
+    let full = line.len() / 64;
+    let mut boundaries = Boundaries {
+        words,
+        at,
+        count: 0,
+    };
     let mut cells: usize = 0;
     let mut carry: u64 = 0;
-    let mut x: usize = 0;
-    while n - x >= 64 {
-        let m = mask_u8(line, x, 64);
-        k = chunk_boundaries(words, at, k, Chunk { m, carry }, left, x);
-        cells += chunk_cells(Chunk { m, carry });
+    for i in 0..full {
+        let x = 64 * i;
+        let m = mask(&line[x..x + 64]);
+        let c = Chunk { m, carry };
+        boundaries.push_chunk(c, left, x);
+        cells += c.cells();
         carry = m >> 63;
-        x += 64;
     }
-    let m = mask_u8(line, x, n - x);
+    let x = 64 * full;
+    let m = mask(&line[x..]);
+    let last = Chunk { m, carry };
+    boundaries.push_chunk(last, left, x);
     Counts {
-        runs: chunk_boundaries(words, at, k, Chunk { m, carry }, left, x) / 2,
-        cells: cells + chunk_cells(Chunk { m, carry }),
+        runs: boundaries.count / 2,
+        cells: cells + last.cells(),
     }
 }
 
-pub fn extract_line_u16(line: &[u16], left: bool, words: &mut [u32], at: usize) -> Counts
-    requires { Room left (map nz line.now) words.old at }
-    ensures { Extracted left (map nz line.now) words.old words.new at result }
+// ---- the mask of a chunk, whose cells are 64, or fewer at the line's end: those past it count as zero. They stay a slice: a struct that
+// says "at most 64" would be made in `mask` and taken apart by the functions below
+
+fn mask<T: Nz>(cells: &[T]) -> u64
+    requires { length cells.now ≤ 64 }
+    ensures { result ≡ mask_of 64 (map T.nonzero cells.now) }
 {
-    let n = line.len();
-    let mut k: usize = 0;
-    let mut cells: usize = 0;
-    let mut carry: u64 = 0;
-    let mut x: usize = 0;
-    while n - x >= 64 {
-        let m = mask_u16(line, x, 64);
-        k = chunk_boundaries(words, at, k, Chunk { m, carry }, left, x);
-        cells += chunk_cells(Chunk { m, carry });
-        carry = m >> 63;
-        x += 64;
-    }
-    let m = mask_u16(line, x, n - x);
-    Counts {
-        runs: chunk_boundaries(words, at, k, Chunk { m, carry }, left, x) / 2,
-        cells: cells + chunk_cells(Chunk { m, carry }),
-    }
+    mask64(bytes(cells))
 }
 
-pub fn extract_line_i16(line: &[i16], left: bool, words: &mut [u32], at: usize) -> Counts
-    requires { Room left (map nzℤ line.now) words.old at }
-    ensures { Extracted left (map nzℤ line.now) words.old words.new at result }
+// Its bytes: nonzero where its cells are.
+fn bytes<T: Nz>(cells: &[T]) -> [u8; 64]
+    requires { length cells.now ≤ 64 }
+    ensures { Shows (map T.nonzero cells.now) result 64 }
 {
-    let n = line.len();
-    let mut k: usize = 0;
-    let mut cells: usize = 0;
-    let mut carry: u64 = 0;
-    let mut x: usize = 0;
-    while n - x >= 64 {
-        let m = mask_i16(line, x, 64);
-        k = chunk_boundaries(words, at, k, Chunk { m, carry }, left, x);
-        cells += chunk_cells(Chunk { m, carry });
-        carry = m >> 63;
-        x += 64;
+    if T::BY_EIGHTS && cells.len() == 64 {
+        return full_bytes(cells);
     }
-    let m = mask_i16(line, x, n - x);
-    Counts {
-        runs: chunk_boundaries(words, at, k, Chunk { m, carry }, left, x) / 2,
-        cells: cells + chunk_cells(Chunk { m, carry }),
-    }
+    padded_bytes(cells)
 }
 
-pub fn extract_line_f32(line: &[f32], left: bool, words: &mut [u32], at: usize) -> Counts
-    requires { Room left (map nz_f line.now) words.old at }
-    ensures { Extracted left (map nz_f line.now) words.old words.new at result }
-{
-    let n = line.len();
-    let mut k: usize = 0;
-    let mut cells: usize = 0;
-    let mut carry: u64 = 0;
-    let mut x: usize = 0;
-    while n - x >= 64 {
-        let m = mask_f32(line, x, 64);
-        k = chunk_boundaries(words, at, k, Chunk { m, carry }, left, x);
-        cells += chunk_cells(Chunk { m, carry });
-        carry = m >> 63;
-        x += 64;
-    }
-    let m = mask_f32(line, x, n - x);
-    Counts {
-        runs: chunk_boundaries(words, at, k, Chunk { m, carry }, left, x) / 2,
-        cells: cells + chunk_cells(Chunk { m, carry }),
-    }
-}
-
-// ---- the masks of each kind: of the chunk from x on, n of whose cells are in the line; those past it count as zero
-
-fn mask_u8(line: &[u8], x: usize, n: usize) -> u64
-    requires { Part (length line.now) x n }
-    ensures { result ≡ mask_of 64 (drop x (map nz line.now)) }
-{
-    let b = chunk_u8(line, x, n);
-    mask64(b)
-}
-
-fn mask_u16(line: &[u16], x: usize, n: usize) -> u64
-    requires { Part (length line.now) x n }
-    ensures { result ≡ mask_of 64 (drop x (map nz line.now)) }
-{
-    let b = chunk_u16(line, x, n);
-    mask64(b)
-}
-
-fn mask_i16(line: &[i16], x: usize, n: usize) -> u64
-    requires { Part (length line.now) x n }
-    ensures { result ≡ mask_of 64 (drop x (map nzℤ line.now)) }
-{
-    let b = chunk_i16(line, x, n);
-    mask64(b)
-}
-
-fn mask_f32(line: &[f32], x: usize, n: usize) -> u64
-    requires { Part (length line.now) x n }
-    ensures { result ≡ mask_of 64 (drop x (map nz_f line.now)) }
-{
-    if n == 64 {
-        let b = chunk_f32(line, x);
-        return mask64(b);
-    }
-    let b = pad_f32(line, x, n);
-    mask64(b)
-}
-
-// ---- bytes of each kind: nonzero where the n cells from x on are, and zero past them
-
-fn chunk_u8(line: &[u8], x: usize, n: usize) -> [u8; 64]
-    requires { Part (length line.now) x n }
-    ensures { Shows (map nz line.now) x result 64 }
+// Of 64 cells, eight at each turn: the compiler then stores eight of f32 together, and mask64 need not wait for single bytes.
+fn full_bytes<T: Nz>(cells: &[T]) -> [u8; 64]
+    requires { length cells.now ≡ 64 }
+    ensures { Shows (map T.nonzero cells.now) result 64 }
 {
     let mut b = [0u8; 64];
-    let mut i: usize = 0;
-    while i < n {
-        b[i] = line[x + i];
-        i += 1;
-    }
-    b
-}
-
-fn chunk_u16(line: &[u16], x: usize, n: usize) -> [u8; 64]
-    requires { Part (length line.now) x n }
-    ensures { Shows (map nz line.now) x result 64 }
-{
-    let mut b = [0u8; 64];
-    let mut i: usize = 0;
-    while i < n {
-        b[i] = nz_u16(line[x + i]) as u8;
-        i += 1;
-    }
-    b
-}
-
-fn chunk_i16(line: &[i16], x: usize, n: usize) -> [u8; 64]
-    requires { Part (length line.now) x n }
-    ensures { Shows (map nzℤ line.now) x result 64 }
-{
-    let mut b = [0u8; 64];
-    let mut i: usize = 0;
-    while i < n {
-        b[i] = nz_i16(line[x + i]) as u8;
-        i += 1;
-    }
-    b
-}
-
-fn pad_f32(line: &[f32], x: usize, n: usize) -> [u8; 64]
-    requires { Part (length line.now) x n }
-    ensures { Shows (map nz_f line.now) x result 64 }
-{
-    let mut b = [0u8; 64];
-    let mut i: usize = 0;
-    while i < n {
-        b[i] = nz_f32(line[x + i]) as u8;
-        i += 1;
-    }
-    b
-}
-
-// All 64, eight at each turn: the compiler then stores them together, and mask64 need not wait for single bytes.
-fn chunk_f32(line: &[f32], x: usize) -> [u8; 64]
-    requires { Part (length line.now) x 64 }
-    ensures { Shows (map nz_f line.now) x result 64 }
-{
-    let mut b = [0u8; 64];
-    let mut i: usize = 0;
-    while i < 64 {
-        let mut j: usize = 0;
-        while j < 8 {
-            b[i + j] = nz_f32(line[x + i + j]) as u8;
-            j += 1;
+    for eight in 0..8 {
+        for j in 0..8 {
+            let i = 8 * eight + j;
+            b[i] = cells[i].byte();
         }
-        i += 8;
     }
     b
 }
 
-// ---- which cells are nonzero. An f32 is zero when it is +0.0 or -0.0; NaN is nonzero
-
-pub fn nz_u16(v: u16) -> bool
-    ensures { result ≡ nz v }
+// Of fewer cells too, and zero past them.
+fn padded_bytes<T: Nz>(cells: &[T]) -> [u8; 64]
+    requires { length cells.now ≤ 64 }
+    ensures { Shows (map T.nonzero cells.now) result 64 }
 {
-    v != 0
-}
-
-pub fn nz_i16(v: i16) -> bool
-    ensures { result ≡ nzℤ v }
-{
-    v != 0
-}
-
-pub fn nz_f32(v: f32) -> bool
-    ensures { result ≡ nz_f v }
-{
-    v != 0.0
+    let mut b = [0u8; 64];
+    for i in 0..cells.len() {
+        b[i] = cells[i].byte();
+    }
+    b
 }
 
 // ---- masks
@@ -261,10 +165,9 @@ fn mask64(b: [u8; 64]) -> u64
 {
     let t = weigh(b);
     let mut m: u64 = 0;
-    let mut j: usize = 0;
-    while j < 64 {
+    for eight in 0..8 {
+        let j = 8 * eight;
         m |= (mask8(t, j) as u64) << j;
-        j += 8;
     }
     m
 }
@@ -274,10 +177,8 @@ fn weigh(b: [u8; 64]) -> [u8; 64]
     ensures { Weighs (map nz b) result 64 }
 {
     let mut t = [0u8; 64];
-    let mut i: usize = 0;
-    while i < 64 {
+    for i in 0..64 {
         t[i] = ((b[i] != 0) as u8) << (i % 8);
-        i += 1;
     }
     t
 }
@@ -288,10 +189,8 @@ fn mask8(t: [u8; 64], j: usize) -> u8
     ensures { (l : List Bool) → Weighs l t 64 → result ≡ mask_of 8 (drop j l) }
 {
     let mut s: u8 = 0;
-    let mut i: usize = 0;
-    while i < 8 {
+    for i in 0..8 {
         s += t[j + i];
-        i += 1;
     }
     s
 }
@@ -305,73 +204,95 @@ struct Chunk {
     carry: u64,
 }
 
-// How many cells of a chunk are nonzero. Without an edge all are as the cell before them, which takes less time than counting bits.
-fn chunk_cells(c: Chunk) -> usize
-    requires { c.carry < 2 }
-    ensures { result ≡ ones c.m }
-{
-    if c.m ^ ((c.m << 1) | c.carry) == 0 {
-        return 64 * c.carry as usize;
+impl Chunk {
+    // The bits that differ from the one before.
+    fn edges(self) -> u64
+        ensures { result ≡ edge_bits self.m self.carry }
+    {
+        self.m ^ ((self.m << 1) | self.carry)
     }
-    u64::count_ones(c.m) as usize
+
+    // How many cells are nonzero. Without an edge all are as the cell before them, which takes less time than counting bits.
+    fn cells(self) -> usize
+        requires { self.carry < 2 }
+        ensures { result ≡ ones self.m }
+    {
+        if self.edges() == 0 {
+            return 64 * self.carry as usize;
+        }
+        u64::count_ones(self.m) as usize
+    }
 }
 
 // ---- boundaries: the starts and ends of runs one after the other. Boundary 2i is run i's start, 2i + 1 its end
 
-// Writes the boundaries of the chunk from x on; the first is boundary k. Answers the next boundary's number.
-fn chunk_boundaries(words: &mut [u32], at: usize, k: usize, c: Chunk, left: bool, x: usize) -> usize
-    requires { BoundaryRoom words.old at k x (chunk_boundaries left c.m c.carry x) }
-    ensures { Put words.old words.new at k result (chunk_boundaries left c.m c.carry x) }
-{
-    if left {
-        edges(words, at, k, c.m ^ ((c.m << 1) | c.carry), x)
-    } else {
-        singles(words, at, k, c.m, x)
-    }
+// The words of the runs from place `at` on, held, and how many boundaries are written.
+#[derive(Drop)]
+struct Boundaries<'a> {
+    words: &'a mut [u32],
+    at: usize,
+    count: usize,
 }
 
-// Writes the places of the set bits of e, lowest first: two at each turn, which takes less time than one.
-fn edges(words: &mut [u32], at: usize, k: usize, e: u64, x: usize) -> usize
-    requires { BoundaryRoom words.old at k x (places 64 e x) }
-    ensures { Put words.old words.new at k result (places 64 e x) }
-{
-    let mut e = e;
-    let mut k = k;
-    while e != 0 {
-        e = next_edge(words, at, k, e, x);
-        if e == 0 {
-            return k + 1;
+impl<'a> Boundaries<'a> {
+    // Writes the boundaries of the chunk from x on.
+    fn push_chunk(&mut self, c: Chunk, left: bool, x: usize)
+        requires { Fits self.old x (chunk_boundaries left c.m c.carry x) }
+        ensures { Writes (chunk_boundaries left c.m c.carry x) self.old self.new }
+    {
+        if left {
+            self.push_edges(c.edges(), x);
+        } else {
+            self.push_singles(c.m, x);
         }
-        e = next_edge(words, at, k + 1, e, x);
-        k += 2;
     }
-    k
-}
 
-// As edges does, for runs of one cell each: a start and an end for each set bit.
-fn singles(words: &mut [u32], at: usize, k: usize, m: u64, x: usize) -> usize
-    requires { BoundaryRoom words.old at k x (alone (places 64 m x)) }
-    ensures { Put words.old words.new at k result (alone (places 64 m x)) }
-{
-    let mut m = m;
-    let mut k = k;
-    while m != 0 {
-        let p = lowest(m, x);
-        edge(words, at, k, p);
-        edge(words, at, k + 1, p + 1);
-        m &= m - 1;
-        k += 2;
+    // Writes the places of the set bits of e, lowest first: two at each turn, which takes less time than one.
+    fn push_edges(&mut self, e: u64, x: usize)
+        requires { Fits self.old x (places 64 e x) }
+        ensures { Writes (places 64 e x) self.old self.new }
+    {
+        let mut e = e;
+        while e != 0 {
+            e = self.push_next(e, x);
+            if e == 0 {
+                return;
+            }
+            e = self.push_next(e, x);
+        }
     }
-    k
-}
 
-// Writes the place of the lowest set bit of e as boundary k. Answers e without that bit.
-fn next_edge(words: &mut [u32], at: usize, k: usize, e: u64, x: usize) -> u64
-    requires { Next words.old at k x e }
-    ensures { Took words.old words.new at k x e result }
-{
-    edge(words, at, k, lowest(e, x));
-    e & (e - 1)
+    // The same for runs of one cell each: a start and an end for each set bit.
+    fn push_singles(&mut self, m: u64, x: usize)
+        requires { Fits self.old x (alone (places 64 m x)) }
+        ensures { Writes (alone (places 64 m x)) self.old self.new }
+    {
+        let mut m = m;
+        while m != 0 {
+            let p = lowest(m, x);
+            self.push(p);
+            self.push(p + 1);
+            m &= m - 1;
+        }
+    }
+
+    // Writes the place of the lowest set bit of e. Answers e without that bit.
+    fn push_next(&mut self, e: u64, x: usize) -> u64
+        requires some { 0 < e }
+        requires fits { Fits self.old x (places 64 e x) }
+        ensures { Took self.old self.new e x result }
+    {
+        self.push(lowest(e, x));
+        e & (e - 1)
+    }
+
+    fn push(&mut self, x: u32)
+        requires { FitsNext self.old }
+        ensures { Writes (x ∷ []) self.old self.new }
+    {
+        self.words[self.at + frame::STRIDE * (self.count / 2) + self.count % 2 * frame::END] = x;
+        self.count += 1;
+    }
 }
 
 // The place of the lowest set bit of e, where bit 0 stands at x.
@@ -380,12 +301,4 @@ fn lowest(e: u64, x: usize) -> u32
     ensures { result ≡ x + count_trailing_zeros 64 e }
 {
     (x + u64::trailing_zeros(e) as usize) as u32
-}
-
-// Writes x as boundary k of the runs from place `at` on.
-fn edge(words: &mut [u32], at: usize, k: usize, x: u32)
-    requires { boundary_at at k < length words.old }
-    ensures { words.new ≡ set words.old (boundary_at at k) x }
-{
-    words[at + frame::STRIDE * (k / 2) + k % 2 * frame::END] = x;
 }

@@ -1,6 +1,8 @@
 -- Line starts and last ends, line by line: what the pass over them has found of the lines before line i.
 -- Assumes nothing.
-use Rattle.std.proofs.Common.{◌≡◌, ℕ, zero, suc, ◌+◌, ◌-◌, ◌<◌, ◌≤◌, Bool, true, false, ◌||◌, eqb, ltb, List, get_or, sym, refl, ap, ◌∙◌, subst, true≢false, le_refl, add-one, arith, ltb-false, le-ltb, lt-ltb, eqb-true}
+use Rattle.std.proofs.Common.{◌≡◌, ℕ, zero, suc, ◌+◌, ◌-◌, ◌<◌, ◌≤◌, Bool, true, false, ◌||◌, eqb, ltb, List, get_or, sym, refl, ap, ◌∙◌, subst, true≢false, le_refl, add-one, arith, ltb-false, le-ltb, lt-ltb, eqb-true, Option, None}
+use Rattle.std.specs.Bool.{then_some}
+use Rattle.std.proofs.lemmas.Option.{same_Some}
 use native.Mathlib.Decide.{ℕ_discrete}
 use borrow.Author.Tests.{eqb-false}
 use mir.Val.{bool_byte}
@@ -60,15 +62,25 @@ module _ (L w : ℕ) (left : Bool) (ws : List ℕ) where
     falls_few = omega (arith, T.counted, count_most firsts i)
 
     -- after the last line
-    pub lines_done : fed ≤ i → LinesFound L ws w left fed runs (record { sound = eqb a runs; falls = k })
-    lines_done h = subst (λ (n : ℕ). LinesFound L ws w left n runs (record { sound = eqb a runs; falls = k })) e (record {
-      right = λ t. record { rising = T.rising; last = sym T.here ∙ eqb-true a runs t; inside = T.inside };
-      wrong = λ t S. eqb-false a runs t (T.here ∙ S.last);
-      counted = λ t. T.counted;
-    })
+    pub lines_done : fed ≤ i → {found : Option ℕ} → found ≡ then_some (eqb a runs) k → LinesFound L ws w left fed runs found
+    lines_done h is =
+        subst (LinesFound L ws w left fed runs) (sym is)
+        (subst (λ (n : ℕ). LinesFound L ws w left n runs (then_some (eqb a runs) k)) e (go (eqb a runs) refl))
       where
         e : i ≡ fed
         e = omega (arith, T.upto)
+
+        go : (t : Bool) → eqb a runs ≡ t → LinesFound L ws w left i runs (then_some t k)
+        go true t = record {
+          right = λ j is. record { rising = T.rising; last = sym T.here ∙ eqb-true a runs t; inside = T.inside };
+          wrong = λ is S. cc;
+          counted = λ j is. sym (same_Some k j is) ∙ T.counted;
+        }
+        go false t = record {
+          right = λ j is. cc;
+          wrong = λ is S. eqb-false a runs t (T.here ∙ S.last);
+          counted = λ j is. cc;
+        }
 
     -- line i, whose runs are a to before `next`
     module _ (l : i < fed) where
@@ -79,11 +91,11 @@ module _ (L w : ℕ) (left : Bool) (ws : List ℕ) where
       is_next = ap first (add-one i)
 
       -- what is not sound, as the pass answers it
-      not_sound : (LinesSound L ws w fed runs → ⊥) → (j : ℕ) → LinesFound L ws w left fed runs (record { sound = false; falls = j })
-      not_sound h j = record { right = λ t. absurd (true≢false (sym t)); wrong = λ t. h; counted = λ t. absurd (true≢false (sym t)) }
+      not_sound : (LinesSound L ws w fed runs → ⊥) → LinesFound L ws w left fed runs None
+      not_sound h = record { right = λ j is. cc; wrong = λ is. h; counted = λ j is. cc }
 
-      pub line_wrong : (ltb next a || ltb runs next) ≡ true → LinesFound L ws w left fed runs (record { sound = false; falls = k })
-      line_wrong t = not_sound (λ S. true≢false (sym t ∙ right S)) k
+      pub line_wrong : (ltb next a || ltb runs next) ≡ true → LinesFound L ws w left fed runs None
+      line_wrong t = not_sound (λ S. true≢false (sym t ∙ right S))
         where
           right : LinesSound L ws w fed runs → (ltb next a || ltb runs next) ≡ false
           right S = simp (
@@ -123,8 +135,8 @@ module _ (L w : ℕ) (left : Bool) (ws : List ℕ) where
 
         -- a line with runs
         module _ (m : a < next) where
-          pub line_wide : (j : ℕ) → w < end (next - 1) → LinesFound L ws w left fed runs (record { sound = false; falls = j })
-          line_wide j wide = not_sound (λ S. omega (arith, S.inside i l (next - 1) (omega (arith, T.here)) (omega (arith, is_next)))) j
+          pub line_wide : w < end (next - 1) → LinesFound L ws w left fed runs None
+          line_wide wide = not_sound (λ S. omega (arith, S.inside i l (next - 1) (omega (arith, T.here)) (omega (arith, is_next))))
 
           -- its first run falls where it starts before `last` and the gap
           fell : {gap : ℕ} → gap ≡ gap_of left → (x : ℕ) → (x ≡ 0 → last ≡ 4294967296) → ((r : ℕ) → suc r ≡ x → last ≡ end r)

@@ -1,7 +1,7 @@
 -- What the passes find decides whether the words are sound.
 -- Assumes nothing.
 use Rattle.std.proofs.Common.{◌≡◌, ℕ, zero, suc, ◌+◌, ◌-◌, ◌*◌, ◌<◌, ◌≤◌, Bool, true, false, not, ◌&&◌, ◌||◌, eqb, ltb, leb, List, sym, refl, ap, ◌∙◌, true≢false, le_refl, mul-le-mul_right, arith, ltb-false, le-ltb, eq-eqb, eqb-true, leb-false}
-use borrow.Author.Tests.{not-true, not-false, lt-leb}
+use borrow.Author.Tests.{lt-leb}
 use Rattle.groups.specs.Groups.{count}
 use Rattle.groups.proofs.BoolLaws.{or_left, or_right, bool_same, or_false}
 use Rattle.groups.proofs.CountLaws.{count_none}
@@ -10,7 +10,7 @@ use Rattle.frame.specs.Runs.{Run, gap_of, run_lengths}
 use Rattle.frame.specs.Memory.{most_runs}
 use Rattle.frame.specs.Words.{line_start, parent_of, stored_run}
 use Rattle.forest.proofs.ForestLaws.{roots_others}
-use Rattle.sound.specs.declared.Lines.{Lines}
+use Rattle.std.proofs.Common.{Option, Some, None}
 use Rattle.sound.specs.declared.Runs.{Runs}
 use Rattle.sound.specs.Stored.{WordsSound, words_sound, PassReady}
 use Rattle.sound.specs.Passes.{falls, first_falls, LinesSound, LinesFound, wrong_run, Nonempty, RunsFound}
@@ -86,16 +86,13 @@ module _ (L w : ℕ) (left : Bool) (fed : ℕ) (figures : Figures) (ws : List �
         apart = λ r m n. W.ordered ℓ l r (omega (arith, W.last)) m n;
       }
 
-  module _ (P : PassReady L w left fed ws) {lines : Lines} (F : LinesFound L ws w left fed runs lines) where
-    pub lines_wrong : not lines.sound ≡ true → false ≡ test
-    lines_wrong n = refused (λ W. F.wrong (not-true lines.sound n) (words_lines W))
+  module _ (P : PassReady L w left fed ws) {lines : Option ℕ} (F : LinesFound L ws w left fed runs lines) where
+    pub lines_wrong : lines ≡ None → false ≡ test
+    lines_wrong n = refused (λ W. F.wrong n (words_lines W))
 
-    module _ (begins : first 0 ≡ 0) (n : not lines.sound ≡ false) {found : Runs} (G : RunsFound L ws left runs found) where
-      h : lines.sound ≡ true
-      h = not-false lines.sound n
-
+    module _ (begins : first 0 ≡ 0) (fallen : ℕ) (h : lines ≡ Some fallen) {found : Runs} (G : RunsFound L ws left runs found) where
       S : LinesSound L ws w fed runs
-      S = F.right h
+      S = F.right fallen h
 
       -- the sum of the lengths is below 2^32
       exact : Nonempty L ws runs → InOrder → found.cells ≡ run_lengths run runs
@@ -118,9 +115,9 @@ module _ (L w : ℕ) (left : Bool) (fed : ℕ) (figures : Figures) (ws : List �
         others ℓ l (suc r) m n =
             le-ltb (run (suc r)).start ((run r).end + gap_of left) ((words_order W ℓ l).apart r (omega arith) n)
 
-        same_falls : found.falls ≡ lines.falls
+        same_falls : found.falls ≡ fallen
         same_falls = G.fallen W.nonempty ∙ ap (count falling) (sym S.last) ∙ others_same falling first fed begins S.rising others
-            ∙ sym (F.counted h)
+            ∙ sym (F.counted fallen h)
 
         same_joins : runs - found.roots ≡ figures.joins
         same_joins = omega (arith, G.rooted, W.join_count, roots_others parent runs)
@@ -132,7 +129,7 @@ module _ (L w : ℕ) (left : Bool) (fed : ℕ) (figures : Figures) (ws : List �
         one_each e = sum ∙ single_lengths run runs W.nonempty (W.single e)
 
       -- and which words it is found of
-      module _ (none : found.wrong ≡ 0) (same : found.falls ≡ lines.falls) where
+      module _ (none : found.wrong ≡ 0) (same : found.falls ≡ fallen) where
         right : (r : ℕ) → r < runs → (leb (run r).end (run r).start ≡ false) × (ltb r (parent r) ≡ false)
         right r l = or_false _ _ (stays_none (wrong_run L ws) 0 runs r (omega (arith, G.wrong)) (omega arith) l)
 
@@ -147,7 +144,7 @@ module _ (L w : ℕ) (left : Bool) (fed : ℕ) (figures : Figures) (ws : List �
         }
           where
             counts : count falling (first fed) ≤ count (first_falls falling first) fed
-            counts = omega (arith, ap (count falling) S.last, G.fallen nonempty, F.counted h)
+            counts = omega (arith, ap (count falling) S.last, G.fallen nonempty, F.counted fallen h)
 
         found_words : runs - found.roots ≡ figures.joins → found.cells ≡ figures.cells → found.sizes ≡ figures.cells
             → (left ≡ false → found.cells ≡ runs) → Words
@@ -169,7 +166,7 @@ module _ (L w : ℕ) (left : Bool) (fed : ℕ) (figures : Figures) (ws : List �
 
       -- hence the answer
       abbrev same_all : Bool
-      same_all = ((((eqb found.wrong 0 && eqb found.falls lines.falls) && eqb (runs - found.roots) figures.joins)
+      same_all = ((((eqb found.wrong 0 && eqb found.falls fallen) && eqb (runs - found.roots) figures.joins)
           && eqb found.cells figures.cells) && eqb found.sizes figures.cells) && (left || eqb found.cells runs)
 
       pub answer : same_all ≡ test
@@ -177,7 +174,7 @@ module _ (L w : ℕ) (left : Bool) (fed : ℕ) (figures : Figures) (ws : List �
         where
           to : same_all ≡ true → test ≡ true
           to t =
-              let p = and₆ (eqb found.wrong 0) (eqb found.falls lines.falls) (eqb (runs - found.roots) figures.joins)
+              let p = and₆ (eqb found.wrong 0) (eqb found.falls fallen) (eqb (runs - found.roots) figures.joins)
               (eqb found.cells figures.cells) (eqb found.sizes figures.cells) (left || eqb found.cells runs) t in
               right_words L w left fed figures ws (found_words (eqb-true _ _ p.0) (eqb-true _ _ p.1) (eqb-true _ _ p.2)
               (eqb-true _ _ p.3) (eqb-true _ _ p.4) (λ e. eqb-true found.cells runs (rw e at p.5)))
@@ -191,7 +188,7 @@ module _ (L w : ℕ) (left : Bool) (fed : ℕ) (figures : Figures) (ws : List �
               let W = words_right L w left fed figures ws t in
               simp (
                 eq-eqb found.wrong 0 (none_wrong W),
-                eq-eqb found.falls lines.falls (same_falls W),
+                eq-eqb found.falls fallen (same_falls W),
                 eq-eqb (runs - found.roots) figures.joins (same_joins W),
                 eq-eqb found.cells figures.cells (sum W ∙ sym W.total),
                 eq-eqb found.sizes figures.cells (G.sized ∙ W.sizes),

@@ -1,6 +1,6 @@
 -- The runs, block by block and one by one: what the passes over them have found of those before run r.
 -- Assumes nothing.
-use Rattle.std.proofs.Common.{◌≡◌, ℕ, suc, ◌+◌, ◌-◌, ◌*◌, ◌/◌, ◌%◌, ◌^◌, ◌<◌, ◌≤◌, Bool, not, eqb, ltb, leb, List, get_or, sym, refl, ◌∙◌, subst, le_refl, mul-le-mul, add-one, arith, ltb-true, lt-ltb, le-leb, leb-true}
+use Rattle.std.proofs.Common.{◌≡◌, ℕ, suc, min, ◌+◌, ◌-◌, ◌*◌, ◌/◌, ◌%◌, ◌^◌, ◌<◌, ◌≤◌, Bool, not, eqb, ltb, leb, List, get_or, sym, refl, ◌∙◌, subst, le_refl, mul-le-mul, add-one, arith, ltb-true, lt-ltb, le-leb, leb-true}
 use mir.Val.{bool_byte}
 use Rattle.groups.proofs.BoolLaws.{bool_same}
 use Rattle.groups.proofs.CountLaws.{count_none, count_most}
@@ -10,7 +10,7 @@ use Rattle.frame.specs.Words.{start_place, size_place, run_start, run_end, paren
 use Rattle.forest.specs.Forest.{own, roots, root_sizes}
 use Rattle.forest.proofs.ForestLaws.{roots_others}
 use Rattle.sound.specs.declared.Runs.{Runs}
-use Rattle.sound.specs.Passes.{falls, wrong_run, Nonempty, RunsFound, BlockReady}
+use Rattle.sound.specs.Passes.{falls, wrong_run, Nonempty, RunsReady, RunsFound, BlockReady}
 use Rattle.sound.proofs.TestLaws.{byte_le, byte_no_gap, counts_more, sums_more}
 
 -- numbers modulo 2^32: the test of the end before, less one where the gap is 0; and the sum with one length more
@@ -47,10 +47,9 @@ module _ (L : ℕ) (left : Bool) (ws : List ℕ) where
   abbrev size : ℕ → ℕ
   size r = size_word L ws r * bool_byte (eqb (parent r) r)
 
-  -- all blocks, before the one that starts at run r
-  pub record RunsTo (runs : ℕ) (found : Runs) (r : ℕ) : Type 0 where
-    pub upto : r ≤ runs
-    pub so_far : RunsFound L ws left r found
+  -- all blocks before this one
+  pub record RunsTo (runs : ℕ) (found : Runs) (block : ℕ) : Type 0 where
+    pub so_far : RunsFound L ws left (min (65536 * block) runs) found
 
   -- a block from run a to before b, before run r: what is found, where `before` was the sum before the block, and low and high are the
   -- sums of the halves since
@@ -159,11 +158,24 @@ module _ (L : ℕ) (left : Bool) (ws : List ℕ) where
   roots_few {r} F = omega (arith, F.rooted, roots_others parent r)
 
   -- where r has come to the end
-  found_at : {n r : ℕ} {found : Runs} → RunsFound L ws left r found → r ≤ n → n ≤ r → RunsFound L ws left n found
+  pub found_at : {n r : ℕ} {found : Runs} → RunsFound L ws left r found → r ≤ n → n ≤ r → RunsFound L ws left n found
   found_at {n} {r} {found} F l h = let e : r ≡ n = omega arith in subst (λ (n : ℕ). RunsFound L ws left n found) e F
 
   pub block_done : {a b before low high r : ℕ} {found : Runs} → BlockTo a b before found low high r → b ≤ r → RunsFound L ws left b found
   block_done T = found_at T.so_far T.upto
 
-  pub runs_done : {runs r : ℕ} {found : Runs} → RunsTo runs found r → runs ≤ r → RunsFound L ws left runs found
-  runs_done T = found_at T.so_far T.upto
+  -- a block that there is begins before the last run
+  module _ {runs block : ℕ} {found : Runs} (T : RunsTo runs found block) (begun : 65536 * block < runs) where
+    pub block_ready : RunsReady L runs ws → BlockReady L ws left (65536 * block) (min runs (65536 * block + 65536)) found
+    block_ready R = record {
+      ready = record { memory = omega (arith, R.memory); few = omega (arith, R.few) };
+      up = omega arith;
+      short = omega arith;
+      before = found_at T.so_far (omega arith) (omega arith);
+    }
+
+  pub runs_more : (runs block : ℕ) {found : Runs} → RunsFound L ws left (min runs (65536 * block + 65536)) found → RunsTo runs found (block + 1)
+  runs_more runs block F = record { so_far = found_at F (omega arith) (omega arith) }
+
+  pub runs_done : {runs block : ℕ} {found : Runs} → RunsTo runs found block → runs ≤ 65536 * block → RunsFound L ws left runs found
+  runs_done T h = found_at T.so_far (omega arith) (omega arith)

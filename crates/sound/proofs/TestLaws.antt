@@ -1,6 +1,6 @@
--- Tests: as numbers, counted one by one, with what they let into a sum, and joined by `or`.
+-- Tests: as numbers, counted one by one, with what they let into a sum; and differences modulo 2^32.
 -- Assumes nothing.
-use Rattle.std.proofs.Common.{◌≡◌, ℕ, suc, ◌+◌, ◌*◌, ◌^◌, ◌<◌, ◌≤◌, Bool, true, false, cond, not, sym, refl, le_refl, mul-le-mul, add-one, arith, Fits}
+use Rattle.std.proofs.Common.{◌≡◌, ℕ, suc, ◌+◌, ◌-◌, ◌*◌, ◌%◌, ◌^◌, ◌<◌, ◌≤◌, Bool, true, false, cond, not, sym, refl, le_refl, mul-le-mul, add-one, arith, Fits}
 use mir.Syntax.{Width}
 use mir.Val.{bool_byte, bits}
 use Rattle.groups.specs.Groups.{count, sum_over}
@@ -45,3 +45,10 @@ sums_more f v n {s} e = rw (add-one n) (omega (arith, e, sum_suc f v n, go (f n)
     go : (t : Bool) → v n * bool_byte t ≡ cond t (v n) 0
     go true = omega arith
     go false = omega arith
+
+-- a difference modulo 2^32, and that the sum with it gives back what it was taken from
+pub wrap_low : (x : ℕ) → x % 4294967296 < 4294967296
+wrap_low x = omega arith
+
+pub wrap_back : (e s : ℕ) → e < 4294967296 → s < 4294967296 → ((e + (4294967296 - s)) % 4294967296 + s) % 4294967296 ≡ e
+wrap_back e s l m = omega arith

@@ -1,12 +1,11 @@
 -- What the passes over lines and over runs ask and find.
 -- Assumes nothing.
-use Rattle.std.specs.Prelude.{◌≡◌, ℕ, zero, suc, ◌+◌, ◌*◌, ◌%◌, ◌^◌, ◌<◌, ◌≤◌, Bool, true, false, ◌&&◌, ◌||◌, List, length, nat_le, nat_lt}
+use Rattle.std.specs.Prelude.{◌≡◌, ℕ, zero, suc, ◌+◌, ◌*◌, ◌%◌, ◌^◌, ◌<◌, ◌≤◌, Bool, true, ◌&&◌, ◌||◌, List, length, nat_le, nat_lt, Option, Some, None}
 use Rattle.groups.specs.Groups.{count}
 use Rattle.frame.specs.Runs.{Run, gap_of, run_lengths}
 use Rattle.frame.specs.Memory.{stride}
 use Rattle.frame.specs.Words.{line_start, run_start, run_end, parent_of, size_word, stored_run}
 use Rattle.forest.specs.Forest.{roots, root_sizes}
-use Rattle.sound.specs.declared.Lines.{Lines}
 use Rattle.sound.specs.declared.Runs.{Runs}
 
 -- run r starts before the end of the run before it and the gap; the first run of all counts as one that does
@@ -46,10 +45,10 @@ module _ (L : ℕ) (ws : List ℕ) where
     pub inside : (ℓ : ℕ) → ℓ < fed → (r : ℕ) → line_start ws ℓ ≤ r → suc r ≡ line_start ws (suc ℓ) → end r ≤ w
 
   -- whether that is so, and then how many first runs fall
-  pub record LinesFound (w : ℕ) (left : Bool) (fed runs : ℕ) (found : Lines) : Type 0 where
-    pub right : found.sound ≡ true → LinesSound w fed runs
-    pub wrong : found.sound ≡ false → LinesSound w fed runs → ⊥
-    pub counted : found.sound ≡ true → found.falls ≡ count (first_falls (falls left (stored_run L ws)) (line_start ws)) fed
+  pub record LinesFound (w : ℕ) (left : Bool) (fed runs : ℕ) (found : Option ℕ) : Type 0 where
+    pub right : (k : ℕ) → found ≡ Some k → LinesSound w fed runs
+    pub wrong : found ≡ None → LinesSound w fed runs → ⊥
+    pub counted : (k : ℕ) → found ≡ Some k → k ≡ count (first_falls (falls left (stored_run L ws)) (line_start ws)) fed
 
   -- run r is empty, or its parent is above it
   abbrev pub wrong_run : ℕ → Bool

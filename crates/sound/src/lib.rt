@@ -23,10 +23,9 @@ pub fn words_sound(words: &[u32], g: geo::Geo, fed: usize, figures: frame::Figur
     if (words[0] != 0) | (runs > fed * most) {
         return false;
     }
-    let lines = lines_pass(words, g, fed, runs);
-    if !lines.sound {
+    let Some(falls) = lines_pass(words, g, fed, runs) else {
         return false;
-    }
+    };
     let found = runs_pass(words, g.lines, g.left, runs);
     let roots = found.roots as usize;
     let cells = found.cells as usize;
@@ -34,61 +33,44 @@ pub fn words_sound(words: &[u32], g: geo::Geo, fed: usize, figures: frame::Figur
     let total = figures.cells;
     // With the left byte zero each run has one cell: each has at least one, and there are as many cells as runs.
     (found.wrong == 0)
-        & (found.falls as usize == lines.falls)
+        & (found.falls as usize == falls)
         & (runs - roots == joins)
         & (cells == total)
         & (found.sizes == total)
         & (g.left | (cells == runs))
 }
 
-// What the pass over the lines finds: whether their starts and their last ends are sound, and how many first runs fall.
-#[derive(Clone, Copy)]
-struct Lines {
-    sound: bool,
-    falls: usize,
-}
-
-// Before the first run: an end that every start is before, so that the first run falls.
+// Before the first run: an end that every start is before, so that the first run falls. A number and no Option, so that the first run is
+// no case of its own.
 const NO_END: usize = 4294967296;
 
-// Ends rise along a line that is in order, so that only the last is held to the width. No start may be above `runs`, so that the runs
-// looked at are there.
-fn lines_pass(words: &[u32], g: geo::Geo, fed: usize, runs: usize) -> Lines
+// How many first runs fall, if the starts of the lines and their last ends are sound. Ends rise along a line that is in order, so that only
+// the last is held to the width. No start may be above `runs`, so that the runs looked at are there.
+fn lines_pass(words: &[u32], g: geo::Geo, fed: usize, runs: usize) -> Option<usize>
     requires { LinesReady g.lines fed runs words.now }
     ensures { LinesFound g.lines words.now g.width g.left fed runs result }
 {
     let gap = g.left as usize;
     let base = g.lines + 1;
-    let mut falls: usize = 0;
+    let mut falls = 0;
     let mut end = NO_END;
-    let mut a: usize = 0;
-    let mut i: usize = 0;
-    while i < fed {
+    let mut a = 0;
+    for i in 0..fed {
         let b = words[i + 1] as usize;
         if (b < a) | (b > runs) {
-            return Lines {
-                sound: false,
-                falls,
-            };
+            return None;
         }
         if a < b {
             let s = words[base + frame::STRIDE * a] as usize;
             falls += (s < end + gap) as usize;
             end = words[base + (frame::STRIDE * (b - 1) + frame::END)] as usize;
             if end > g.width {
-                return Lines {
-                    sound: false,
-                    falls,
-                };
+                return None;
             }
         }
         a = b;
-        i += 1;
     }
-    Lines {
-        sound: a == runs,
-        falls,
-    }
+    (a == runs).then_some(falls)
 }
 
 // What the pass over the runs finds: how many have no cell or a parent above them, how many fall, how many are their own parents, the cells
@@ -116,14 +98,12 @@ fn runs_pass(words: &[u32], lines: usize, left: bool, runs: usize) -> Runs
         falls: 0,
         roots: 0,
         cells: 0,
-        last: 4294967295,
+        last: u32::MAX,
         sizes: 0,
     };
-    let mut r: usize = 0;
-    while r < runs {
-        let end = if runs - r < BLOCK { runs } else { r + BLOCK };
-        found = block_pass(words, lines, left, r, end, found);
-        r = end;
+    for block in 0..runs.div_ceil(BLOCK) {
+        let a = BLOCK * block;
+        found = block_pass(words, lines, left, a, runs.min(a + BLOCK), found);
     }
     found
 }
@@ -143,8 +123,7 @@ fn block_pass(words: &[u32], lines: usize, left: bool, a: usize, b: usize, found
     let mut last = found.last;
     let mut low: u32 = 0;
     let mut high: u32 = 0;
-    let mut r = a;
-    while r < b {
+    for r in a..b {
         let at = frame::STRIDE * r;
         let s = words[base + at];
         let e = words[base + (at + frame::END)];
@@ -157,9 +136,8 @@ fn block_pass(words: &[u32], lines: usize, left: bool, a: usize, b: usize, found
         roots += own;
         low += size % 65536;
         high += size / 65536;
-        cells = std::num::wrapping_add_u32(cells, std::num::wrapping_sub_u32(e, s));
-        last = std::num::wrapping_sub_u32(e, less);
-        r += 1;
+        cells = cells.wrapping_add(e.wrapping_sub(s));
+        last = e.wrapping_sub(less);
     }
     let sizes = found.sizes + low as usize + 65536 * high as usize;
     Runs {

@@ -65,15 +65,11 @@ fn sweep(p: &mut [u32], at: LinePair, lo: i64, hi: i64) -> usize
     requires { ToSweep p.old at lo hi }
     ensures { United p.old p.new at.cb (sweep_pairs (digit lo) (digit hi) (run_in p.old) at) result }
 {
-    let cb = at.cb;
-    let nb = at.nb;
     let mut joins: usize = 0;
     let mut j = at.na;
-    let mut i = at.ca;
-    while i < cb {
-        j = skip(p, i, j, nb, hi);
-        joins += row(p, i, j, nb, lo);
-        i += 1;
+    for i in at.ca..at.cb {
+        j = skip(p, i, j, at.nb, hi);
+        joins += row(p, i, j, at.nb, lo);
     }
     joins
 }
@@ -84,11 +80,12 @@ fn skip(p: &[u32], i: usize, j: usize, nb: usize, hi: i64) -> usize
     ensures { Skipped (digit hi) (run_in p.now) i j nb result }
 {
     let cs = p[frame::STRIDE * i];
-    let mut m = j;
-    while m < nb && ends_by(p[frame::STRIDE * m + frame::END], hi, cs) {
-        m += 1;
+    for m in j..nb {
+        if !ends_by(p[frame::STRIDE * m + frame::END], hi, cs) {
+            return m;
+        }
     }
-    m
+    nb
 }
 
 // Unites run `i` with the runs from `j` on that start before it ends, up to the first that does not.
@@ -98,10 +95,11 @@ fn row(p: &mut [u32], i: usize, j: usize, nb: usize, lo: i64) -> usize
 {
     let ce = p[frame::STRIDE * i + frame::END];
     let mut joins: usize = 0;
-    let mut m = j;
-    while m < nb && starts_before(p[frame::STRIDE * m], lo, ce) {
+    for m in j..nb {
+        if !starts_before(p[frame::STRIDE * m], lo, ce) {
+            break;
+        }
         joins += forest::unite(p, i, m) as usize;
-        m += 1;
     }
     joins
 }

@@ -1,19 +1,14 @@
--- A frame that was refused stays so. One whose lines are all fed is ready to be numbered, or refused with 10; and then it is what a reading
--- promises.
+-- A frame whose lines are all fed is ready to be numbered, or refused with 10; and then it is what a reading promises.
 -- Assumes nothing.
-use mathlib.Core.Path.{◌≡◌, refl, sym, ap, subst}
+use mathlib.Core.Path.{◌≡◌, refl, sym, subst}
 use mathlib.Core.List.{List}
 use Prim.Native.Nat.{ℕ, ◌-◌, ◌≤◌, ◌<◌}
 use native.Mathlib.Omega.{arith}
 use Rattle.frame.specs.Shape.{size, width}
 use Rattle.frame.specs.Kinds.{Number, largest, Value}
 use Rattle.frame.specs.Plain.{counted, refused}
-use Rattle.frame.proofs.PlainLaws.{unless_some}
 use Rattle.geo.specs.declared.Geo.{Geo}
-use Rattle.causes.specs.declared.Cause.{Cause}
-use Rattle.causes.specs.declared.Check.TheVariants as K
-use Rattle.causes.specs.Cases.{cause_number, check_number}
-use Rattle.causes.proofs.CaseLaws.{positive}
+use Rattle.causes.specs.declared.Cause.TheVariants as C
 use Rattle.causes.proofs.CallLaws.{read_gets_10, read_gets_none}
 use Rattle.write.specs.Writes.{WriteReady, LinesWritten}
 use Rattle.label.specs.declared.Session.{Session}
@@ -27,7 +22,7 @@ use Rattle.label.proofs.RecordGeometry.{geo_lines, geo_width}
 use Rattle.label.proofs.WrittenNumbers.{write_ready, written_numbers}
 use Rattle.label.proofs.FitLaws.{joins_fit}
 use Rattle.whole.specs.declared.FedFrame.{FedFrame}
-use Rattle.whole.specs.FedFrames.{refusal_of, fed_record, FrameFed, SomeFed, Numbers}
+use Rattle.whole.specs.FedFrames.{fed_record, FrameFed, SomeFed, Numbers}
 
 -- n, where the check passed
 abbrev count_of : FedFrame → ℕ
@@ -41,7 +36,7 @@ module _ {s : Session} {f : FedFrame} {ws : List ℕ} {places : ℕ} (F : FrameF
   t = fed_record s f
 
   abbrev g : Geo
-  g = f.found.geo
+  g = f.geo
 
   lines_is : g.lines ≡ lines_of t
   lines_is = geo_lines t ws g F.geometry
@@ -83,44 +78,22 @@ module _ {s : Session} {f : FedFrame} {ws : List ℕ} {places : ℕ} (F : FrameF
 
 -- ---- as the code meets it
 
--- the check failed
-pub number_refused : (kind : Number) {f : FedFrame} {ws : List ℕ} {out : List (Value kind)} (c : Cause) → f.found.check ≡ K.Failed c
-    → Numbers kind f ws out (refused (cause_number c)) ws out
-number_refused kind c failed = record {
-  refusal = λ l. record { said = sym (ap (λ k. refused (check_number k)) failed); words = refl; output = refl };
-  accepted = λ e. absurd (omega (arith, ap check_number failed, positive c));
-}
-
--- it passed
-none : (f : FedFrame) → f.found.check ≡ K.Passed → refusal_of f ≡ 0
-none f passed = ap check_number passed
-
-module _ {f : FedFrame} {ws : List ℕ} (passed : f.found.check ≡ K.Passed) where
+module _ {f : FedFrame} {ws : List ℕ} where
   module _ {places : ℕ} (P : SomeFed f ws places) where
     pub number_joins : f.figures.joins ≤ f.figures.runs
-    number_joins = joins_fit (fed_record P.session f) ws (P.fed (none f passed)).is_sound
+    number_joins = joins_fit (fed_record P.session f) ws P.fed.is_sound
 
-    pub number_ready : (kind : Number) → count_of f ≤ largest kind
-        → WriteReady kind f.found.geo.lines f.found.geo.width f.found.geo.lines ws places
-    number_ready kind h = ready (P.fed (none f passed)) kind h
+    pub number_ready : (kind : Number) → count_of f ≤ largest kind → WriteReady kind f.geo.lines f.geo.width f.geo.lines ws places
+    number_ready kind h = ready P.fed kind h
 
   module _ (kind : Number) {out : List (Value kind)} where
     pub number_ten : largest kind < count_of f → Numbers kind f ws out (refused 10) ws out
-    number_ten h = record {
-      refusal = λ l. absurd (omega (arith, l, none f passed));
-      accepted = λ e s F.
-          let t = fed_record s f in
-          let said = sym (unless_some 10 9 (refused 10) refl) in
-          refused_read kind t ws out 10 (cause_ten F kind h) (omega arith) (refused 10) (refused 10) said t refl;
-    }
+    number_ten h s F = refused_read kind (fed_record s f) ws out C.Kind (cause_ten F kind h) refl
 
     pub number_done : count_of f ≤ largest kind → {ws' : List ℕ} {out' : List (Value kind)}
-        → LinesWritten kind f.found.geo.lines f.found.geo.width f.found.geo.lines ws ws' out out'
+        → LinesWritten kind f.geo.lines f.geo.width f.geo.lines ws ws' out out'
         → Numbers kind f ws out (counted (count_of f) f.figures) ws' out'
-    number_done h {ws'} {out'} W = record {
-      refusal = λ l. absurd (omega (arith, l, none f passed));
-      accepted = λ e s F.
-          let t = fed_record s f in
-          let numbers = written_numbers t ws F.is_sound kind ws' out out' (exact F) (written F kind W) in
-          read_promise kind t ws out (sym (no_cause F kind h)) ws' out' numbers (counted (count_of f) t.figures) refl t refl;
-    }
+    number_done h {ws'} {out'} W s F =
+        let t = fed_record s f in
+        let numbers = written_numbers t ws F.is_sound kind ws' out out' (exact F) (written F kind W) in
+        read_promise kind t ws out (sym (no_cause F kind h)) ws' out' numbers (counted (count_of f) t.figures) refl t refl

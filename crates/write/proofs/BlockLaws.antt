@@ -33,10 +33,10 @@ line_room m n w h = omega (arith, mul-le-mul_right w h, suc-mul m w)
 -- ---- the part from place a on, lent, and the whole once it is back
 
 module _ {A : Type 0} where
-  abbrev lent : ℕ → List A → List A
+  abbrev pub lent : ℕ → List A → List A
   lent a cells = mid_of a (length cells - a) cells
 
-  abbrev back : ℕ → List A → List A → List A
+  abbrev pub back : ℕ → List A → List A → List A
   back a cells part = put_mid a (length cells - a) cells part
 
   module _ (z : A) (a : ℕ) (cells part : List A) (fits : a ≤ length cells) where

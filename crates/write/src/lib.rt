@@ -1,288 +1,151 @@
 // What a reading and a size call write. Nothing here knows a record.
 //
-//     paint_run_T           one run's cells, for each kind of number T
-//     paint_line_T          one line's cells, each with the name of its run, into that line's part of the output
-//     write_block_T         every line: the fed ones named and painted, zeros for the others
-//     size_block            each number's size, as its root's word has it
+//     FromU32       a kind of number: the largest, and a number written as one
+//     paint_run     one run's cells
+//     paint_line    one line's cells, each with the name of its run, into that line's part of the output
+//     write_block   every line: the fed ones named and painted, zeros for the others
+//     size_block    each number's size, as its root's word has it
 //
-// Crate names writes the names, once for all kinds; painting reads them and writes the output. Promised (specs/Writes.antt): each run has
-// its number as its name and no other word changes, each cell has the number of the run that covers it or 0, and each size is the word of
-// its number's root.
+// Crate names writes the names; painting reads them and writes the output. Promised (specs/Writes.antt), of each kind of number: each run
+// has its number as its name and no other word changes, each cell has the number of the run that covers it or 0, and each size is the
+// word of its number's root.
 #![tactic(auto)]
 
-ghost use Rattle.std.specs.Prelude.{◌≡◌, ◌+◌, ◌≤◌, length};
-ghost use Rattle.frame.specs.Kinds.{u8, u16, u32, write};
+ghost use Rattle.std.specs.Prelude.{◌≡◌, ℕ, refl, map, ◌+◌, ◌≤◌, length};
+ghost use Rattle.frame.specs.Kinds.{Number, largest, u8, u16, u32, Value, write};
 ghost use Rattle.write.specs.Writes.{WriteReady, LinesWritten, SizesReady, SizesWritten};
 ghost use Rattle.write.specs.Steps.{Filled, PaintReady, LineToPaint, LinePainted};
 
-// ---- kinds of numbers: the largest, and a number written as one
+// ---- kinds of numbers
 
-#[derive(Clone, Copy)]
-pub struct LabelU8;
+// A kind of number, as the Rust's `FromU32`: its largest, and a number written as one.
+pub trait FromU32: Copy {
+    ghost kind: { Number };
 
-impl LabelU8 {
-    pub const MAXV: u64 = 255;
+    // What a place of an output of this kind holds.
+    ghost value: { Self → Value kind };
 
-    pub fn from_u32(number: u32) -> u8
-        requires { number ≤ LabelU8.MAXV }
-        ensures { result ≡ write u8 number }
-    {
+    const MAXV: u64;
+
+    ghost MAXV: { ℕ };
+
+    fn from_u32(number: u32) -> Self
+        requires { number ≤ MAXV }
+        ensures { value result ≡ write kind number };
+
+    ghost largest_is: { MAXV ≡ largest kind };
+}
+
+#[tactic(auto, unfolding(frame::specs::Kinds::largest))]
+impl FromU32 for u8 {
+    ghost kind = { u8 };
+
+    ghost value = { λ x. x };
+
+    const MAXV: u64 = 255;
+
+    ghost MAXV = { largest u8 };
+
+    ghost largest_is = { refl };
+
+    fn from_u32(number: u32) -> u8 {
         number as u8
     }
 }
 
-#[derive(Clone, Copy)]
-pub struct LabelU16;
+#[tactic(auto, unfolding(frame::specs::Kinds::largest))]
+impl FromU32 for u16 {
+    ghost kind = { u16 };
 
-impl LabelU16 {
-    pub const MAXV: u64 = 65535;
+    ghost value = { λ x. x };
 
-    pub fn from_u32(number: u32) -> u16
-        requires { number ≤ LabelU16.MAXV }
-        ensures { result ≡ write u16 number }
-    {
+    const MAXV: u64 = 65535;
+
+    ghost MAXV = { largest u16 };
+
+    ghost largest_is = { refl };
+
+    fn from_u32(number: u32) -> u16 {
         number as u16
     }
 }
 
-#[derive(Clone, Copy)]
-pub struct LabelU32;
+#[tactic(auto, unfolding(frame::specs::Kinds::largest))]
+impl FromU32 for u32 {
+    ghost kind = { u32 };
 
-impl LabelU32 {
-    pub const MAXV: u64 = 4294967295;
+    ghost value = { λ x. x };
 
-    pub fn from_u32(number: u32) -> u32
-        requires { number ≤ LabelU32.MAXV }
-        ensures { result ≡ write u32 number }
-    {
+    const MAXV: u64 = 4294967295;
+
+    ghost MAXV = { largest u32 };
+
+    ghost largest_is = { refl };
+
+    fn from_u32(number: u32) -> u32 {
         number
     }
 }
 
-// ---- numbers as u8
+// ---- the numbers of cells
 
-// Writes `v` to the cells `a` to before `e`.
-fn fill_u8(out: &mut [u8], a: usize, e: usize, v: u8)
+// Writes `v` to the cells `a` to before `e`. No `fill` of std's: it writes the last cell apart, and then painting u16 frames of short runs
+// takes about a twentieth longer (measured: 2.33 ms for 2.20).
+fn fill<T: FromU32>(out: &mut [T], a: usize, e: usize, v: T)
     requires { e ≤ length out.old }
-    ensures { Filled u8 a e v out.old out.new }
+    ensures { Filled T.kind a e (T.value v) (map T.value out.old) (map T.value out.new) }
 {
-    let mut x = a;
-    while x < e {
+    for x in a..e {
         out[x] = v;
-        x += 1;
-    }
-}
-
-// Writes `v` to eight cells from `x` on.
-fn eight_u8(out: &mut [u8], x: usize, v: u8)
-    requires { x + 8 ≤ length out.old }
-    ensures { Filled u8 x (x + 8) v out.old out.new }
-{
-    let mut i: usize = 0;
-    while i < 8 {
-        out[x + i] = v;
-        i += 1;
     }
 }
 
 // Writes `v` to the cells `s` to before `e` of a line of `width` cells, past which there are zeros: eight at a time where the line has
 // eight cells more, which get their zeros back.
-fn paint_run_u8(out: &mut [u8], s: usize, e: usize, width: usize, v: u8)
-    requires { PaintReady u8 s e width out.old }
-    ensures { Filled u8 s e v out.old out.new }
+fn paint_run<T: FromU32>(out: &mut [T], s: usize, e: usize, width: usize, v: T)
+    requires { PaintReady T.kind s e width (map T.value out.old) }
+    ensures { Filled T.kind s e (T.value v) (map T.value out.old) (map T.value out.new) }
 {
     if width - e >= 8 {
+        // No `for`: over steps of eight, or a count of eights, frames of short runs take a quarter longer (measured: 2.5 ms for 2.0).
         let mut x = s;
         while x < e {
-            eight_u8(out, x, v);
+            fill(out, x, x + 8, v);
             x += 8;
         }
-        eight_u8(out, e, 0);
+        fill(out, e, e + 8, T::from_u32(0));
     } else {
-        fill_u8(out, s, e, v);
+        fill(out, s, e, v);
     }
 }
 
 // Writes a line whose runs are named: zeros, and then each run's name to its cells.
-fn paint_line_u8(words: &[u32], g: geo::Geo, line: usize, out: &mut [u8])
-    requires { LineToPaint u8 g.lines g.width line words.now (length out.old) }
-    ensures { LinePainted u8 g.lines g.width line words.now out.old out.new }
+fn paint_line<T: FromU32>(words: &[u32], g: geo::Geo, line: usize, out: &mut [T])
+    requires { LineToPaint T.kind g.lines g.width line words.now (length out.old) }
+    ensures { LinePainted T.kind g.lines g.width line words.now (map T.value out.old) (map T.value out.new) }
 {
-    fill_u8(out, 0, g.width, 0);
-    let last = names::line_start(words, line + 1);
-    let mut r = names::line_start(words, line);
-    while r < last {
+    fill(out, 0, g.width, T::from_u32(0));
+    for r in names::line_start(words, line)..names::line_start(words, line + 1) {
         let start = names::word(words, g.lines, r, 0) as usize;
         let end = names::word(words, g.lines, r, frame::END) as usize;
-        let name = LabelU8::from_u32(names::word(words, g.lines, r, frame::NAME));
-        paint_run_u8(out, start, end, g.width, name);
-        r += 1;
+        let name = names::word(words, g.lines, r, frame::NAME);
+        paint_run(out, start, end, g.width, T::from_u32(name));
     }
 }
 
 // Names all runs, writes each fed line's numbers, and zeros to the other lines. Each line is painted right after its runs are
 // named, while their words are in the cache.
-pub fn write_block_u8(words: &mut [u32], g: geo::Geo, fed: usize, out: &mut [u8])
-    requires { WriteReady u8 g.lines g.width fed words.old (length out.old) }
-    ensures { LinesWritten u8 g.lines g.width fed
-        words.old words.new out.old out.new }
+pub fn write_block<T: FromU32>(words: &mut [u32], g: geo::Geo, fed: usize, out: &mut [T])
+    requires { WriteReady T.kind g.lines g.width fed words.old (length out.old) }
+    ensures { LinesWritten T.kind g.lines g.width fed words.old words.new (map T.value out.old) (map T.value out.new) }
 {
     let mut named: u32 = 0;
-    let mut line: usize = 0;
-    while line < fed {
-        let at = line * g.width;
+    for line in 0..fed {
         named = names::name_line(words, g.lines, line, named);
-        paint_line_u8(words, g, line, &mut out[at..]);
-        line += 1;
+        paint_line(words, g, line, &mut out[line * g.width..]);
     }
     let places = out.len();
-    fill_u8(out, fed * g.width, places, 0);
-}
-
-// ---- numbers as u16: the same but for the kind
-
-fn fill_u16(out: &mut [u16], a: usize, e: usize, v: u16)
-    requires { e ≤ length out.old }
-    ensures { Filled u16 a e v out.old out.new }
-{
-    let mut x = a;
-    while x < e {
-        out[x] = v;
-        x += 1;
-    }
-}
-
-fn eight_u16(out: &mut [u16], x: usize, v: u16)
-    requires { x + 8 ≤ length out.old }
-    ensures { Filled u16 x (x + 8) v out.old out.new }
-{
-    let mut i: usize = 0;
-    while i < 8 {
-        out[x + i] = v;
-        i += 1;
-    }
-}
-
-fn paint_run_u16(out: &mut [u16], s: usize, e: usize, width: usize, v: u16)
-    requires { PaintReady u16 s e width out.old }
-    ensures { Filled u16 s e v out.old out.new }
-{
-    if width - e >= 8 {
-        let mut x = s;
-        while x < e {
-            eight_u16(out, x, v);
-            x += 8;
-        }
-        eight_u16(out, e, 0);
-    } else {
-        fill_u16(out, s, e, v);
-    }
-}
-
-fn paint_line_u16(words: &[u32], g: geo::Geo, line: usize, out: &mut [u16])
-    requires { LineToPaint u16 g.lines g.width line words.now (length out.old) }
-    ensures { LinePainted u16 g.lines g.width line words.now out.old out.new }
-{
-    fill_u16(out, 0, g.width, 0);
-    let last = names::line_start(words, line + 1);
-    let mut r = names::line_start(words, line);
-    while r < last {
-        let start = names::word(words, g.lines, r, 0) as usize;
-        let end = names::word(words, g.lines, r, frame::END) as usize;
-        let name = LabelU16::from_u32(names::word(words, g.lines, r, frame::NAME));
-        paint_run_u16(out, start, end, g.width, name);
-        r += 1;
-    }
-}
-
-pub fn write_block_u16(words: &mut [u32], g: geo::Geo, fed: usize, out: &mut [u16])
-    requires { WriteReady u16 g.lines g.width fed words.old (length out.old) }
-    ensures { LinesWritten u16 g.lines g.width fed
-        words.old words.new out.old out.new }
-{
-    let mut named: u32 = 0;
-    let mut line: usize = 0;
-    while line < fed {
-        let at = line * g.width;
-        named = names::name_line(words, g.lines, line, named);
-        paint_line_u16(words, g, line, &mut out[at..]);
-        line += 1;
-    }
-    let places = out.len();
-    fill_u16(out, fed * g.width, places, 0);
-}
-
-// ---- numbers as u32: the same but for the kind
-
-fn fill_u32(out: &mut [u32], a: usize, e: usize, v: u32)
-    requires { e ≤ length out.old }
-    ensures { Filled u32 a e v out.old out.new }
-{
-    let mut x = a;
-    while x < e {
-        out[x] = v;
-        x += 1;
-    }
-}
-
-fn eight_u32(out: &mut [u32], x: usize, v: u32)
-    requires { x + 8 ≤ length out.old }
-    ensures { Filled u32 x (x + 8) v out.old out.new }
-{
-    let mut i: usize = 0;
-    while i < 8 {
-        out[x + i] = v;
-        i += 1;
-    }
-}
-
-fn paint_run_u32(out: &mut [u32], s: usize, e: usize, width: usize, v: u32)
-    requires { PaintReady u32 s e width out.old }
-    ensures { Filled u32 s e v out.old out.new }
-{
-    if width - e >= 8 {
-        let mut x = s;
-        while x < e {
-            eight_u32(out, x, v);
-            x += 8;
-        }
-        eight_u32(out, e, 0);
-    } else {
-        fill_u32(out, s, e, v);
-    }
-}
-
-fn paint_line_u32(words: &[u32], g: geo::Geo, line: usize, out: &mut [u32])
-    requires { LineToPaint u32 g.lines g.width line words.now (length out.old) }
-    ensures { LinePainted u32 g.lines g.width line words.now out.old out.new }
-{
-    fill_u32(out, 0, g.width, 0);
-    let last = names::line_start(words, line + 1);
-    let mut r = names::line_start(words, line);
-    while r < last {
-        let start = names::word(words, g.lines, r, 0) as usize;
-        let end = names::word(words, g.lines, r, frame::END) as usize;
-        let name = LabelU32::from_u32(names::word(words, g.lines, r, frame::NAME));
-        paint_run_u32(out, start, end, g.width, name);
-        r += 1;
-    }
-}
-
-pub fn write_block_u32(words: &mut [u32], g: geo::Geo, fed: usize, out: &mut [u32])
-    requires { WriteReady u32 g.lines g.width fed words.old (length out.old) }
-    ensures { LinesWritten u32 g.lines g.width fed
-        words.old words.new out.old out.new }
-{
-    let mut named: u32 = 0;
-    let mut line: usize = 0;
-    while line < fed {
-        let at = line * g.width;
-        named = names::name_line(words, g.lines, line, named);
-        paint_line_u32(words, g, line, &mut out[at..]);
-        line += 1;
-    }
-    let places = out.len();
-    fill_u32(out, fed * g.width, places, 0);
+    fill(out, fed * g.width, places, T::from_u32(0));
 }
 
 // ---- sizes
@@ -295,13 +158,11 @@ pub fn size_block(words: &mut [u32], lines: usize, runs: usize, sizes: &mut [u32
 {
     let places = sizes.len();
     let mut named: u32 = 0;
-    let mut r: usize = 0;
-    while r < runs {
+    for r in 0..runs {
         let next = named as usize;
         if next < places {
             sizes[next] = names::word(words, lines, r, frame::SIZE);
         }
         named = names::name_run(words, lines, r, named);
-        r += 1;
     }
 }

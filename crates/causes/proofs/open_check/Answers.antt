@@ -1,6 +1,6 @@
 -- `open_check` meets its contract: each condition is tested where those before it do not hold.
 -- Assumes nothing.
-use mathlib.Core.Path.{sym, ◌∙◌, subst}
+use mathlib.Core.Path.{refl, sym, ◌∙◌, subst}
 use mathlib.Core.List.{List}
 use Prim.Native.Nat.{ℕ}
 use native.Mathlib.Omega.{arith}
@@ -16,8 +16,7 @@ returns-then-bad_rank c =
     let shape = c.args.shape.now in
     let structure = c.args.structure.now in
     found_cause (length shape) (padded 4 shape) structure 1 _ _ (omega arith)
-    (open_gets_1 shape structure _ (rank_test shape _ _ c.bad_rank.ensures c.if-bad_rank.true))
-    c.refused.ensures
+    (open_gets_1 shape structure _ (rank_test shape _ _ c.bad_rank.ensures c.if-bad_rank.true)) refl
 
 pub returns-then-structure-power3 : goal.returns-then-structure-power3
 returns-then-structure-power3 c =
@@ -25,8 +24,7 @@ returns-then-structure-power3 c =
     let structure = c.args.structure.now in
     let ranked = rank_test shape _ _ c.bad_rank.ensures c.if-bad_rank.false in
     found_cause (length shape) (padded 4 shape) structure 2 _ _ (omega arith)
-    (open_gets_2 shape structure _ ranked (λ e. c.if-structure-power3.true (e ∙ sym c.power3.ensures)))
-    c.refused-then-structure-power3.ensures
+    (open_gets_2 shape structure _ ranked (λ e. c.if-structure-power3.true (e ∙ sym c.power3.ensures))) refl
 
 pub returns-then-lopsided : goal.returns-then-lopsided
 returns-then-lopsided c =
@@ -35,8 +33,7 @@ returns-then-lopsided c =
     let ranked = rank_test shape _ _ c.bad_rank.ensures c.if-bad_rank.false in
     let bytes = c.if-structure-power3.false ∙ c.power3.ensures in
     found_cause (length shape) (padded 4 shape) structure 12 _ _ (omega arith)
-    (open_gets_12 shape structure _ ranked bytes (sym c.lopsided.ensures ∙ c.if-lopsided.true))
-    c.refused-then-lopsided.ensures
+    (open_gets_12 shape structure _ ranked bytes (sym c.lopsided.ensures ∙ c.if-lopsided.true)) refl
 
 pub geo_of-g-requires : goal.geo_of-g-requires
 geo_of-g-requires c =
@@ -56,8 +53,7 @@ returns-then-has_zero c =
     let measured = subst (λ (l : List ℕ). Measured (length shape) l structure c.geo_of-g.result) c.shape_of.ensures
     c.geo_of-g.ensures in
     found_cause (length shape) (padded 4 shape) structure 3 _ _ (omega arith)
-    (open_gets_3 shape structure _ ranked bytes alike _ measured (sym c.has_zero.ensures ∙ c.if-has_zero.true))
-    c.refused-then-has_zero.ensures
+    (open_gets_3 shape structure _ ranked bytes alike _ measured (sym c.has_zero.ensures ∙ c.if-has_zero.true)) refl
 
 pub returns-then-too_large : goal.returns-then-too_large
 returns-then-too_large c =
@@ -71,7 +67,7 @@ returns-then-too_large c =
     let no_zero = sym c.has_zero.ensures ∙ c.if-has_zero.false in
     found_cause (length shape) (padded 4 shape) structure 4 _ _ (omega arith)
     (open_gets_4 shape structure _ ranked bytes alike _ measured no_zero
-    (sym c.too_large.ensures ∙ c.if-too_large.true)) c.refused-then-too_large.ensures
+    (sym c.too_large.ensures ∙ c.if-too_large.true)) refl
 
 pub returns-then-memory-words_needed : goal.returns-then-memory-words_needed
 returns-then-memory-words_needed c =
@@ -86,7 +82,7 @@ returns-then-memory-words_needed c =
     let fits = sym c.too_large.ensures ∙ c.if-too_large.false in
     found_cause (length shape) (padded 4 shape) structure 5 _ _ (omega arith)
     (open_gets_5 shape structure _ ranked bytes alike _ measured no_zero fits _ c.words_needed.ensures
-    c.if-memory-words_needed.true) c.refused-then-memory-words_needed.ensures
+    c.if-memory-words_needed.true) refl
 
 pub returns : goal.returns
 returns c =
@@ -100,4 +96,4 @@ returns c =
     let no_zero = sym c.has_zero.ensures ∙ c.if-has_zero.false in
     let fits = sym c.too_large.ensures ∙ c.if-too_large.false in
     open_found shape structure _ ranked bytes alike _ measured no_zero fits _ c.words_needed.ensures
-    c.if-memory-words_needed.false _ c.passed.ensures.0 c.passed.ensures.1
+    c.if-memory-words_needed.false

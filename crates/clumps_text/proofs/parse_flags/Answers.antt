@@ -1,67 +1,48 @@
--- `parse_flags` meets its contract. The loop's invariant: the first i flags are read, and what follows decides.
+-- `parse_flags` meets its contract. The loop's invariant: the flags before i are read, and what follows decides.
 -- Assumes nothing.
-use mathlib.Core.Path.{refl, sym, ◌∙◌}
-use mathlib.Core.List.{[]}
-use Prim.Native.Nat.{◌+◌, ◌-◌}
+use mathlib.Core.Path.{◌≡◌, sym, ap, ◌∙◌, subst}
+use mathlib.Core.Logic.{◌⊎◌, inl, inr}
+use Prim.Native.Nat.{ℕ, ◌<◌}
 use native.Mathlib.Omega.{arith}
-use borrow.Author.Rules.{rules}
-use lib.ListN.{get_or, take, drop, length-drop}
-use lib.Seq.{drop-set-lt}
-use Rattle.clumps_text.specs.Input.{parse_flags}
-use Rattle.clumps_text.specs.Steps.{parse_as_bytes}
-use Rattle.clumps_text.proofs.PlaceLaws.{as_bytes, as_bytes_short, parse_flags_none, parse_flags_turn, parse_flags_all, some_flag}
-use Rattle.clumps_text.proofs.PlaceLaws.{no_flag, from_at}
+use lib.ListN.{length, get_or}
+use Rattle.clumps_text.specs.Input.{parsed}
+use Rattle.clumps_text.proofs.ReadLaws.{FlagsRead, bytes_short, byte_given, flags_begin, flags_none, flags_turn, flags_end}
 use Rattle.clumps_text.proofs.parse_flags.Goals as goal
 
-pub returns-then-bytes_left-n : goal.returns-then-bytes_left-n
-unfolding parse_as_bytes
-returns-then-bytes_left-n c =
-    let s = c.args in (
-      refl,
-      from_at s.text.now (λ t. as_bytes [] (parse_flags s.n t)) c.in-At.is
-          (as_bytes_short s.n (drop c.in-At.at s.text.now) (simp length-drop (omega arith))),
-    )
+pub returns-in_err-given : goal.returns-in_err-given
+returns-in_err-given c =
+    let s = c.args in
+    rw c.from_residual.ensures (bytes_short (length s.flags.now) s.text.now c.in_err-given.ensures.cases)
 
-pub returns-then-b : goal.returns-then-b
-unfolding parse_as_bytes
-returns-then-b c =
+pub loop-i-init : goal.loop-i-init
+loop-i-init c = flags_begin c.args.text.now (length c.args.flags.now) c.args.flags.now
+
+pub returns-then-byte-ne49 : goal.returns-then-byte-ne49
+returns-then-byte-ne49 c =
     let s = c.args in
     let l = c.loop-i in
-    let o = no_flag (get_or s.text.now (c.in-At.at + l.i) 0) c.if-b.true in (
-      l.invariant.1.1.1.0,
-      from_at s.text.now (λ t. as_bytes [] (parse_flags s.n t)) c.in-At.is
-          (sym (l.invariant.1.1.1.1 ∙ parse_flags_none s.text.now c.in-At.at s.n l.i (omega arith) (omega arith) o.0 o.1
-          (take l.i l.out))),
-    )
+    let g = c.in_ok-given.ensures.cases in
+    let h : l.i < length s.flags.now = omega (arith, c.loop-i-test.true, g.3) in
+    flags_none s.text.now (length s.flags.now) l.i h (omega (arith, h, g.0)) (byte_given (length s.flags.now) l.i s.text.now g.1 h) l.flags
+    l.invariant c.if-byte-ne48.true c.if-byte-ne49.true
 
 pub loop-i-preserved : goal.loop-i-preserved
 loop-i-preserved c =
     let s = c.args in
-    let p = c.in-At.at in
     let l = c.loop-i in
-    let b = get_or s.text.now (p + l.i) 0 in (
-      search rules,
-      (
-        l.invariant.1.0,
-        (
-          search rules,
-          (
-            drop-set-lt s.n l.out l.i (b - 48) (omega arith) ∙ l.invariant.1.1.1.0,
-            l.invariant.1.1.1.1 ∙ parse_flags_turn s.text.now p
-                s.n l.i (omega arith) (omega arith) (some_flag b c.if-b.false) l.out
-                (omega
-                (arith, l.invariant.1.1.0, c.requires)),
-          ),
-        ),
-      ),
-    )
+    let g = c.in_ok-given.ensures.cases in
+    let h : l.i < length s.flags.now = omega (arith, c.loop-i-test.true, g.3) in
+    let b = get_or c.in_ok-given.given.now l.i 0 in
+    let f : (b ≡ 48) ⊎ (b ≡ 49) = elim c.else-byte-ne48.either [ inl p ↦ inr p.1 | inr e ↦ inl e ] in
+    flags_turn s.text.now (length s.flags.now) l.i h (omega (arith, h, g.0)) (byte_given (length s.flags.now) l.i s.text.now g.1 h) l.flags
+    l.invariant f (omega (arith, h, l.auto.flags))
 
 pub returns : goal.returns
-unfolding parse_as_bytes
 returns c =
     let s = c.args in
-    let l = c.loop-i in (
-      l.invariant.1.1.1.0,
-      from_at s.text.now (λ t. as_bytes [] (parse_flags s.n t)) c.in-At.is
-          (sym (l.invariant.1.1.1.1 ∙ parse_flags_all s.text.now l.out c.in-At.at s.n l.i (omega arith) (omega arith))),
-    )
+    let l = c.loop-i in
+    let g = c.in_ok-given.ensures.cases in
+    let n = length s.flags.now in
+    let e : l.i ≡ n = omega (arith, c.loop-i-test.false, l.auto.i-end, g.3) in
+    let v : FlagsRead s.text.now n n l.flags = subst (λ (k : ℕ). FlagsRead s.text.now n k l.flags) e l.invariant in
+    flags_end s.text.now n l.flags l.auto.flags v ∙ ap (parsed l.flags) (sym g.2)

@@ -1,22 +1,16 @@
 -- `parse_structure` meets its contract.
 -- Assumes nothing.
-use mathlib.Core.Path.{◌≡◌, ◌∙◌}
-use native.Mathlib.Omega.{arith}
-use lib.ListN.{length, drop}
-use Rattle.clumps_text.proofs.StructureLaws.{empty_nine}
-use Rattle.clumps_text.proofs.FrameLaws.{flags_given_most, structure_parsed}
+use Rattle.clumps_text.specs.Output.{structure_bytes}
+use Rattle.clumps_text.proofs.ReadLaws.{structure_empty, structure_given}
 use Rattle.clumps_text.proofs.parse_structure.Goals as goal
 
-pub parse_flags-requires : goal.parse_flags-requires
-parse_flags-requires c =
-    let m = flags_given_most (drop c.in-At.at c.args.text.now) in
-    let n : length c.args.structure.now ≡ 9 = empty_nine c.requires in
-    omega (arith, c.flags_given_at-n.ensures)
+pub returns-then-byte_at-eq10 : goal.returns-then-byte_at-eq10
+unfolding structure_bytes
+returns-then-byte_at-eq10 c = structure_empty c.args.text.now c.byte_at.ensures c.if-byte_at-eq10.true
+
+pub returns-in_err-rest : goal.returns-in_err-rest
+returns-in_err-rest c =
+    rw c.from_residual.ensures (structure_given c.args.text.now c.byte_at.ensures c.if-byte_at-eq10.false c.in_err-rest.ensures)
 
 pub returns : goal.returns
-returns c =
-    let n : length c.args.structure.now ≡ 9 = empty_nine c.requires in
-    let f = c.parse_flags in
-    structure_parsed c.args.text.now f.result f.new.out
-    c.in-At.is c.flags_given_at-n.ensures
-    c.requires (f.auto.out ∙ n) f.ensures.0 f.ensures.1
+returns c = structure_given c.args.text.now c.byte_at.ensures c.if-byte_at-eq10.false c.in_ok-rest.ensures

@@ -1,32 +1,26 @@
--- `put_decimals` meets its contract. The loop's invariant: what prints the rest from here on prints all but the first number.
+-- `put_decimals` meets its contract. The loop's invariant: the others before this one are printed, with a blank before each.
 -- Assumes nothing.
-use mathlib.Core.Path.{refl, ◌∙◌}
-use native.Mathlib.Omega.{arith}
-use borrow.Author.Rules.{rules}
-use Rattle.clumps_text.proofs.PrintLaws.{decimals_none, decimals_first, blanks_none, blanks_turn}
+use lib.Seq.{take_all}
+use Rattle.clumps_text.specs.Text.{blank_before}
+use Rattle.overlay.proofs.WriterLaws.{writes_none}
+use Rattle.clumps_text.proofs.PrintLaws.{decimals_none, decimals_first, blanks_turn}
 use Rattle.clumps_text.proofs.put_decimals.Goals as goal
 
-pub returns-then-numbers-eq0 : goal.returns-then-numbers-eq0
-returns-then-numbers-eq0 c = decimals_none c.args.numbers.now c.if-numbers-eq0.true
+pub returns-in_default : goal.returns-in_default
+returns-in_default c = decimals_none c.args.numbers.now c.in_default.ensures.cases
 
-pub loop-i-preserved : goal.loop-i-preserved
-loop-i-preserved c =
-    let l = c.loop-i in
-    let n =
-    c.args.numbers.now in (
-      search rules,
-      (
-        c.put_decimal-to-in-loop-i.auto.out
-            ∙ (c.put-to.auto.out ∙ l.invariant.1.0),
-        λ o a p. l.invariant.1.1 o a
-            (blanks_turn n l.i c.loop-i-test.true refl
-            c.put-to.ensures c.put_decimal-to-in-loop-i.ensures p),
-      ),
-    )
+pub loop-number-init : goal.loop-number-init
+unfolding blank_before
+loop-number-init c = writes_none c.put_decimal.new.out
+
+pub loop-number-preserved : goal.loop-number-preserved
+loop-number-preserved c =
+    let l = c.loop-number in
+    blanks_turn c.in-Some.others.now l.number-index c.loop-number-test.true l.invariant c.put.ensures
+    (rw c.from-in-loop-number.ensures at c.put_decimal-in-loop-number.ensures)
 
 pub returns : goal.returns
 returns c =
-    let l = c.loop-i in
-    let n = c.args.numbers.now in
-    decimals_first n (omega arith) refl c.put_decimal-to.ensures
-    (l.invariant.1.1 l.out l.to (blanks_none n l.i c.loop-i-test.false))
+    let l = c.loop-number in
+    decimals_first c.args.numbers.now c.in-Some.ensures.cases.0 (rw c.from.ensures at c.put_decimal.ensures)
+    (rw (take_all l.number-index c.in-Some.others.now c.loop-number-test.false) at l.invariant)

@@ -2,9 +2,8 @@
 -- Assumes nothing.
 use Rattle.clumps_text.specs.Text.{refused_name}
 use Rattle.clumps_text.specs.Output.{refusal_text}
-use Rattle.frame.proofs.OverlayLaws.{adds_first}
 use Rattle.clumps_text.proofs.put_refusal.Goals as goal
 
 pub returns : goal.returns
 unfolding refusal_text refused_name
-returns c = adds_first c.put_line.ensures
+returns c = rw (← c.number.ensures) c.put_line.ensures

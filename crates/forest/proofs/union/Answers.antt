@@ -1,7 +1,7 @@
 -- `forest::union` meets its contract. A root above the other run is joined to that one's group; else what both finds ensure is put together
 -- once, in `roots`, and there is one root or two.
 -- Assumes nothing.
-use Prim.Native.Nat.{ℕ, ◌<◌, min, max}
+use Prim.Native.Nat.{ℕ, ◌<◌}
 use mathlib.Core.Path.{◌≡◌}
 use mathlib.Core.Bool.{Bool, true, ◌&&◌}
 use mathlib.Core.List.{List}
@@ -14,7 +14,6 @@ use Rattle.forest.specs.Unions.{parent_in}
 use Rattle.forest.proofs.ParentLaws.{only_parents}
 use Rattle.forest.proofs.UnionLaws.{both_idle, both_joined, both_asked, above_joined, above_asked, one_parent}
 use Rattle.forest.proofs.union.Goals as goal
-use Rattle.forest.proofs.union.Goals.{then-ra-rb-2, else-ra-rb-2, then-ra-rb-3, else-ra-rb-3}
 
 -- ---- a root above the other run
 
@@ -48,27 +47,18 @@ returns-then-ra-rb c =
     λ n P ha hb. let A = c.find-ra.ensures n P ha in
     both_idle _ _ _ n _ _ _ _ P ha hb A (c.find-rb.ensures n (only_parents _ _ n P A.kept) hb) c.if-ra-rb.true
 
--- lo and hi are the smaller and the larger root
 pub join-requires-2 : goal.join-requires-2
 join-requires-2 c =
-    let is_lo : c.if-ra-rb-2.lo ≡ min c.find-ra.result c.find-rb.result =
-    elim c.if-ra-rb-2.branch [ then-ra-rb-2 w ↦ omega arith | else-ra-rb-2 w ↦ omega arith ] in
-    let is_hi : c.if-ra-rb-3.hi ≡ max c.find-ra.result c.find-rb.result =
-    elim c.if-ra-rb-3.branch [ then-ra-rb-3 w ↦ omega arith | else-ra-rb-3 w ↦ omega arith ] in
     let Z = c.requires in
     let A = c.find-ra.ensures _ Z.parents (omega arith) in
     let B = c.find-rb.ensures _ (only_parents _ _ _ Z.parents A.kept) (omega arith) in
     both_asked _ _ _ _ _ _ _ _ Z.parents (omega arith) (omega arith) A B Z
     c.if-ra-rb.false
     (omega (arith, c.slice_known-6-1.given (parent_at c.find-ra.result))) _ _
-    is_lo is_hi
+    c.min.ensures c.max.ensures
 
 pub returns : goal.returns
 returns c =
-    let is_lo : c.if-ra-rb-2.lo ≡ min c.find-ra.result c.find-rb.result =
-    elim c.if-ra-rb-2.branch [ then-ra-rb-2 w ↦ omega arith | else-ra-rb-2 w ↦ omega arith ] in
-    let is_hi : c.if-ra-rb-3.hi ≡ max c.find-ra.result c.find-rb.result =
-    elim c.if-ra-rb-3.branch [ then-ra-rb-3 w ↦ omega arith | else-ra-rb-3 w ↦ omega arith ] in
     λ n P ha hb. let A = c.find-ra.ensures n P ha in
-    rw (c.join-2.ensures, is_lo, is_hi)
+    rw (c.join-2.ensures, c.min.ensures, c.max.ensures)
     (both_joined _ _ _ n _ _ _ _ P ha hb A (c.find-rb.ensures n (only_parents _ _ n P A.kept) hb) c.if-ra-rb.false)

@@ -1,8 +1,8 @@
--- `has_zero` meets its contract: the leading dimensions are three.
+-- `has_zero` meets its contract: the leading dimensions are searched for 0.
 -- Assumes nothing.
-use borrow.Author.Rules.{rules}
-use Rattle.geo.proofs.DimsLaws.{zero_dims}
+use mathlib.Core.Path.{◌∙◌}
+use Rattle.geo.proofs.DimsLaws.{zero_among}
 use Rattle.geo.proofs.has_zero.Goals as goal
 
 pub returns : goal.returns
-returns c = zero_dims c.args.g.dims (search rules)
+returns c = c.contains.ensures.value ∙ zero_among c.args.g.dims

@@ -1,11 +1,14 @@
 -- `limited_lines` meets its contract: each product stops at the limit.
 -- Assumes nothing.
 use borrow.Author.Rules.{rules}
-use Rattle.geo.proofs.ProductLaws.{limited_three}
+use native.Mathlib.Omega.{arith}
+use mathlib.Core.Path.{◌≡◌, ◌∙◌}
+use Prim.Native.Nat.{ℕ, ◌*◌, min}
+use Rattle.std.specs.List.{fold}
+use Rattle.geo.proofs.ProductLaws.{limited_all}
 use Rattle.geo.proofs.limited_lines.Goals as goal
 
 pub returns : goal.returns
 returns c =
-    limited_three 4294967293 c.args.dims c.product.result c.product-2.result
-    c.product-3.result (search rules)
-    c.product.ensures c.product-2.ensures c.product-3.ensures
+    let e : c.fold.result ≡ fold (λ (a b : ℕ). min (a * b) 4294967293) 1 c.args.dims = search rules in
+    e ∙ limited_all 4294967293 c.args.dims (omega arith)

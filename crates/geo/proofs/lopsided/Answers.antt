@@ -1,34 +1,28 @@
--- `lopsided` meets its contract: no byte before i differs from its opposite, and half of the bytes decide.
+-- `lopsided` meets its contract: the search is of the pairs before the centre, which decide.
 -- Assumes nothing.
-use mathlib.Core.Path.{refl}
+use mathlib.Core.Path.{◌≡◌, refl, ◌∙◌}
+use Prim.Native.Nat.{◌-◌, ◌/◌}
 use native.Mathlib.Omega.{arith}
+use Rattle.std.proofs.Common.{rules, tests}
+use Rattle.std.specs.List.{list_any, range_with_len}
+use Rattle.std.proofs.lemmas.Iterator.{YieldsList-from_range}
+use Rattle.std.proofs.lemmas.Iterator.Search.{any_from_yields_List}
 use Rattle.frame.specs.Structure.{on}
-use Rattle.frame.specs.ChainRule.{any}
+use Rattle.geo.proofs.AnyLaws.{any_below}
 use Rattle.geo.proofs.LeftLaws.{power_three}
-use Rattle.geo.proofs.LopsidedLaws.{pair_differs, pair_alike, pairs_alike}
+use Rattle.geo.proofs.LopsidedLaws.{differs, half_searched}
 use Rattle.geo.proofs.lopsided.Goals as goal
 
 pub overflow_sub-last : goal.overflow_sub-last
-overflow_sub-last c = omega (arith, power_three c.args.rank c.requires.0, c.power3-last.ensures)
-
-pub loop-i-init : goal.loop-i-init
-loop-i-init c =
-    let three = power_three c.args.rank c.requires.0 in
-    (omega (arith, three, c.power3-last.ensures), omega arith, unfold any in refl)
-
-pub returns-then-structure-i : goal.returns-then-structure-i
-unfolding on
-returns-then-structure-i c =
-    let l = c.loop-i in
-    pair_differs c.args.rank _ c.args.structure.now l.invariant.0 l.i l.invariant.1 c.if-structure-i.true
-
-pub loop-i-preserved : goal.loop-i-preserved
-unfolding on
-loop-i-preserved c =
-    let l = c.loop-i in
-    (l.invariant.0, omega arith, pair_alike c.args.rank _ c.args.structure.now l.invariant.0 l.i l.invariant.2 c.if-structure-i.false)
+overflow_sub-last c = omega (arith, power_three c.args.rank c.requires.0, c.power3.ensures)
 
 pub returns : goal.returns
+unfolding on
 returns c =
-    let l = c.loop-i in
-    pairs_alike c.args.rank _ c.args.structure.now l.invariant.0 l.i l.invariant.2 (omega arith)
+    let s = c.args.structure.now in
+    let last = c.power3.result - 1 in
+    let half = YieldsList-from_range 0 (last / 2) (last / 2) refl (omega arith) in
+    let searched : c.any.result ≡ list_any (differs last s) (range_with_len 0 (last / 2)) =
+    any_from_yields_List (differs last s) _ _ c.any.result c.any.ensures.ran half (λ x b q k. search (rules, tests)) in
+    searched ∙ any_below (differs last s) (last / 2)
+    ∙ half_searched c.args.rank last s (omega (arith, power_three c.args.rank c.requires.0, c.power3.ensures)) c.requires.0 c.requires.1

@@ -1,10 +1,8 @@
--- `shape_of` meets its contract. The loop's invariant: the first `i` entries are copied.
+-- `shape_of` meets its contract: the entries past it are 0.
 -- Assumes nothing.
-use native.Mathlib.Omega.{arith}
-use Rattle.geo.proofs.CopyLaws.{front_done}
+use Rattle.frame.specs.Lists.{padded}
 use Rattle.geo.proofs.shape_of.Goals as goal
 
 pub returns : goal.returns
-returns c =
-    let l = c.loop-i in
-    front_done 4 c.args.shape.now l.out l.i l.invariant.1 (omega arith)
+unfolding padded
+returns c = c.filled_up.ensures

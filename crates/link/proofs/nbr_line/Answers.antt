@@ -1,37 +1,47 @@
 -- `nbr_line` meets its contract: what the three moved coordinates say (NbrLineLaws).
 -- Assumes nothing.
-use mathlib.Core.Path.{◌≡◌}
+use mathlib.Core.Path.{◌≡◌, sym, ◌∙◌}
 use borrow.Author.Rules.{rules}
-use lib.ListN.{length}
-use Rattle.link.proofs.NbrLineLaws.{outside, fits_rows, fits_all, at_line}
+use Rattle.std.proofs.Common.{None}
+use Rattle.link.proofs.NbrLineLaws.{first_out, second_out, third_out, fits_first, fits_row, fits_rows, fits_all, at_line}
 use Rattle.link.proofs.nbr_line.Goals as goal
 
-pub overflow_mul-result-then-v0-d0 : goal.overflow_mul-result-then-v0-d0
-overflow_mul-result-then-v0-d0 c =
-    let three_dims : length c.args.dims ≡ 3 = search rules in
-    fits_rows c.args.dims c.args.c c.args.o c.requires c.moved-v0.result
-    c.moved-v1.result c.moved-v2.result c.moved-v0.ensures
-    c.moved-v1.ensures c.moved-v2.ensures three_dims c.if-v0-d0.true
+pub returns-in_err-v0 : goal.returns-in_err-v0
+returns-in_err-v0 c =
+    let none : c.from_residual.result ≡ None = search rules in
+    λ ℓ is_c. none ∙ first_out _ _ _ c.requires (search rules) (search rules) ℓ is_c (sym c.in_err-v0.was ∙ c.moved.ensures)
 
-pub overflow_add-result-then-v0-d0 : goal.overflow_add-result-then-v0-d0
-overflow_add-result-then-v0-d0 c =
-    let three_dims : length c.args.dims ≡ 3 = search rules in
-    fits_all c.args.dims c.args.c c.args.o c.requires c.moved-v0.result
-    c.moved-v1.result c.moved-v2.result c.moved-v0.ensures
-    c.moved-v1.ensures c.moved-v2.ensures three_dims c.if-v0-d0.true
+pub returns-in_err-v1 : goal.returns-in_err-v1
+returns-in_err-v1 c =
+    let none : c.from_residual-in_err-v1.result ≡ None = search rules in
+    λ ℓ is_c. none ∙ second_out _ _ _ c.requires (search rules) (search rules) ℓ is_c (sym c.in_err-v1.was ∙ c.moved-2.ensures)
 
-pub returns-then-v0-d0 : goal.returns-then-v0-d0
-returns-then-v0-d0 c =
-    let three-moves : length c.args.o ≡ 3 = search rules in
-    let three_dims : length c.args.dims ≡ 3 = search rules in
-    at_line c.args.dims c.args.c c.args.o c.requires c.moved-v0.result
-    c.moved-v1.result c.moved-v2.result c.moved-v0.ensures
-    c.moved-v1.ensures c.moved-v2.ensures three_dims c.if-v0-d0.true three-moves
+pub returns-in_err-v2 : goal.returns-in_err-v2
+returns-in_err-v2 c =
+    let none : c.from_residual-in_err-v2.result ≡ None = search rules in
+    λ ℓ is_c. none ∙ third_out _ _ _ c.requires (search rules) (search rules) ℓ is_c (sym c.in_err-v2.was ∙ c.moved-3.ensures)
 
-pub returns-else-v0-d0 : goal.returns-else-v0-d0
-returns-else-v0-d0 c =
-    let three-moves : length c.args.o ≡ 3 = search rules in
-    let three_dims : length c.args.dims ≡ 3 = search rules in
-    outside c.args.dims c.args.c c.args.o c.requires c.moved-v0.result
-    c.moved-v1.result c.moved-v2.result c.moved-v0.ensures
-    c.moved-v1.ensures c.moved-v2.ensures three_dims three-moves c.if-v0-d0.false
+pub overflow_mul-result : goal.overflow_mul-result
+overflow_mul-result c =
+    fits_first c.args.dims c.args.c c.args.o c.requires (search rules) _ _ _ (sym c.in_ok-v0.was ∙ c.moved.ensures)
+    (sym c.in_ok-v1.was ∙ c.moved-2.ensures) (sym c.in_ok-v2.was ∙ c.moved-3.ensures)
+
+pub overflow_add-result : goal.overflow_add-result
+overflow_add-result c =
+    fits_row c.args.dims c.args.c c.args.o c.requires (search rules) _ _ _ (sym c.in_ok-v0.was ∙ c.moved.ensures)
+    (sym c.in_ok-v1.was ∙ c.moved-2.ensures) (sym c.in_ok-v2.was ∙ c.moved-3.ensures)
+
+pub overflow_mul-result-2 : goal.overflow_mul-result-2
+overflow_mul-result-2 c =
+    fits_rows c.args.dims c.args.c c.args.o c.requires (search rules) _ _ _ (sym c.in_ok-v0.was ∙ c.moved.ensures)
+    (sym c.in_ok-v1.was ∙ c.moved-2.ensures) (sym c.in_ok-v2.was ∙ c.moved-3.ensures)
+
+pub overflow_add-result-2 : goal.overflow_add-result-2
+overflow_add-result-2 c =
+    fits_all c.args.dims c.args.c c.args.o c.requires (search rules) _ _ _ (sym c.in_ok-v0.was ∙ c.moved.ensures)
+    (sym c.in_ok-v1.was ∙ c.moved-2.ensures) (sym c.in_ok-v2.was ∙ c.moved-3.ensures)
+
+pub returns : goal.returns
+returns c =
+    at_line c.args.dims c.args.c c.args.o c.requires (search rules) _ _ _ (sym c.in_ok-v0.was ∙ c.moved.ensures)
+    (sym c.in_ok-v1.was ∙ c.moved-2.ensures) (sym c.in_ok-v2.was ∙ c.moved-3.ensures) (search rules)

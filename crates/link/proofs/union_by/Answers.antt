@@ -16,39 +16,39 @@ pub nbr_line-requires : goal.nbr_line-requires
 nbr_line-requires c =
     let three : length c.args.g.dims ≡ 3 = search rules in
     moves_ready c.args.g.leads c.args.g.dims c.args.g.lines c.args.line c.args.code c.requires.0.leading three
-    c.requires.0.lines.within c.args.c c.delta-o.result c.requires.1 c.delta-o.ensures
+    c.requires.0.lines.within c.args.c c.delta.result c.requires.1 c.delta.ensures
 
 pub link_lines-requires : goal.link_lines-requires
 unfolding on
 link_lines-requires c =
     let three : length c.args.g.dims ≡ 3 = search rules in
-    let at = found_by _ _ _ c.delta-o.ensures c.args.g.dims c.args.line
-    (c.in-At.ensures c.args.line c.requires.1) in (
+    let at = found_by _ _ _ c.delta.ensures c.args.g.dims c.args.line
+    (c.in-Some.ensures c.args.line c.requires.1) in (
       c.requires.0.lines,
       by_earlier c.args.g.leads c.args.g.dims c.args.g.lines c.requires.0.leading three
           c.args.structure.now c.args.words.now c.args.line c.args.code c.requires.0.lines.within c.requires.2
-          c.in-At.m c.if-prev-adj.true at,
+          c.in-Some.m c.if-prev-adj.true at,
     )
 
-pub returns-in-At : goal.returns-in-At
+pub returns-in-Some : goal.returns-in-Some
 unfolding on
-returns-in-At c =
+returns-in-Some c =
     let three : length c.args.g.dims ≡ 3 = search rules in
-    let at = found_by _ _ _ c.delta-o.ensures c.args.g.dims c.args.line
-    (c.in-At.ensures c.args.line c.requires.1) in
+    let at = found_by _ _ _ c.delta.ensures c.args.g.dims c.args.line
+    (c.in-Some.ensures c.args.line c.requires.1) in
     subst (λ (es : List Edge). UnitedIn c.args.g.lines c.args.words.now c.link_lines.new.words
     (runs_to c.args.words.now c.args.line) es c.link_lines.result)
     (sym (by_pairs c.args.g.leads c.args.g.dims c.args.g.lines c.requires.0.leading three c.args.structure.now
     c.args.words.now c.args.line c.args.code c.requires.0.lines.within c.requires.2
-    c.in-At.m c.if-prev-adj.true at))
+    c.in-Some.m c.if-prev-adj.true at))
     c.link_lines.ensures
 
-pub returns-in-Nothing : goal.returns-in-Nothing
+pub returns-in-None : goal.returns-in-None
 unfolding on
-returns-in-Nothing c =
+returns-in-None c =
     let three : length c.args.g.dims ≡ 3 = search rules in
-    let none = found_by _ _ _ c.delta-o.ensures c.args.g.dims c.args.line
-    (c.in-Nothing.ensures c.args.line c.requires.1) in
+    let none = found_by _ _ _ c.delta.ensures c.args.g.dims c.args.line
+    (c.in-None.ensures c.args.line c.requires.1) in
     subst (λ (es : List Edge). UnitedIn c.args.g.lines c.args.words.now c.args.words.now
     (runs_to c.args.words.now c.args.line) es 0)
     (sym (by_none c.args.g.leads c.args.g.dims c.args.g.lines c.requires.0.leading three c.args.structure.now

@@ -25,7 +25,7 @@ returns-then-words-line c =
 
 pub loop-code-init : goal.loop-code-init
 loop-code-init c =
-    (omega arith, (unfold gather in (in_none c.args.g.lines c.args.words.now c.args.line c.requires.lines)))
+    unfold gather in (in_none c.args.g.lines c.args.words.now c.args.line c.requires.lines)
 
 pub union_by-joins-requires : goal.union_by-joins-requires
 union_by-joins-requires c = (
@@ -33,10 +33,10 @@ union_by-joins-requires c = (
     leading = c.requires.leading;
     bytes = c.requires.bytes;
     lines = in_ready c.args.g.lines c.args.words.now c.args.line
-        c.requires.lines c.loop-code.words _ c.loop-code.joins c.loop-code.invariant.1;
+        c.requires.lines c.loop-code.words _ c.loop-code.joins c.loop-code.invariant;
   },
   c.coords-c.ensures,
-  omega (arith, c.backward_count-count.ensures, c.loop-code-test.true),
+  omega (arith, c.backward_count-code-end.ensures, c.loop-code-test.true),
 )
 
 pub overflow_add-joins : goal.overflow_add-joins
@@ -46,19 +46,17 @@ overflow_add-joins c =
     let most = joins_most c.args.g c.args.structure.now c.args.words.now c.args.line c.requires three
     c.union_by-joins.new.words (l.code + 1) (l.joins + c.union_by-joins.result)
     (touches_more c.args.g c.args.structure.now c.args.words.now c.args.line c.requires three l.words l.code
-    l.joins l.invariant.1 c.union_by-joins.new.words c.union_by-joins.result
+    l.joins l.invariant c.union_by-joins.new.words c.union_by-joins.result
     c.union_by-joins.ensures) in
     omega (arith, most, c.requires.lines.room)
 
 pub loop-code-preserved : goal.loop-code-preserved
 loop-code-preserved c =
     let three : length c.args.g.dims ≡ 3 = search rules in
-    let l = c.loop-code in (
-      search rules,
-      touches_more c.args.g c.args.structure.now c.args.words.now c.args.line c.requires three l.words
-          l.code l.joins l.invariant.1 c.union_by-joins.new.words c.union_by-joins.result
-          c.union_by-joins.ensures,
-    )
+    let l = c.loop-code in
+    touches_more c.args.g c.args.structure.now c.args.words.now c.args.line c.requires three l.words
+    l.code l.joins l.invariant c.union_by-joins.new.words c.union_by-joins.result
+    c.union_by-joins.ensures
 
 pub returns : goal.returns
 returns c =
@@ -68,5 +66,5 @@ returns c =
     (runs_to c.args.words.now c.args.line) es l.joins)
     (ap (gather (touches_by_in c.args.g c.args.structure.now c.args.words.now c.args.line) 0)
     (let e : l.code ≡ 3 ^ c.args.g.leads / 2 =
-    omega (arith, l.invariant.0, c.loop-code-test.false, c.backward_count-count.ensures) in e) ∙ touches_all c.args.g
-    c.args.structure.now c.args.words.now c.args.line c.requires three) l.invariant.1
+    omega (arith, c.loop-code-test.false, c.backward_count-code-end.ensures) in e) ∙ touches_all c.args.g
+    c.args.structure.now c.args.words.now c.args.line c.requires three) l.invariant

@@ -1,11 +1,11 @@
 -- `end_read` meets its contract: by the answer's case.
 -- Assumes nothing.
-use mathlib.Core.Path.{refl}
-use Rattle.record_c.proofs.EndLaws.{ends_written, ends_refused}
+use Rattle.std.proofs.Common.{refl}
+use Rattle.std.proofs.lemmas.Result.{err_from_is_err_and}
+use Rattle.record_c.proofs.EndLaws.{ends_refused}
 use Rattle.record_c.proofs.end_read.Goals as goal
 
-pub returns-in-Accepted : goal.returns-in-Accepted
-returns-in-Accepted c = rw c.in-Accepted.is (ends_written _ refl c.put_figures.ensures)
-
-pub returns-in-Refused : goal.returns-in-Refused
-returns-in-Refused c = rw c.in-Refused.is (ends_refused _ _ c.number.ensures)
+pub returns-in_err-said : goal.returns-in_err-said
+returns-in_err-said c =
+    let p = err_from_is_err_and c.from_residual.result c.from_residual.ensures.1 in
+    rw (p.1, p.2, c.in_err-said.was) (ends_refused _ _ refl)

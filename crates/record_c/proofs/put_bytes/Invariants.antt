@@ -1,12 +1,8 @@
--- `put_bytes` meets its contract. The loop's invariant: the first i places are written.
+-- `put_bytes` meets its contract. The loop's invariant: the bytes so far are written.
 -- Assumes nothing.
-use Prim.Native.Nat.{◌-◌, ◌≤◌}
-use lib.ListN.{length, take}
-use Rattle.frame.specs.Overlay.{Adds}
+use lib.ListN.{take}
+use Rattle.overlay.specs.Writers.{Writes}
 use Rattle.record_c.proofs.put_bytes.Given as goal
 
-abbrev pub invariant-loop-i : goal.invariant-loop-i
-invariant-loop-i l = (l.i ≤ length l.list) × Adds (take l.i l.list) l.initial.buf l.at l.buf l.next
-
-abbrev pub decreases-loop-i : goal.decreases-loop-i
-decreases-loop-i l = length l.list - l.i
+abbrev pub invariant-loop-byte : goal.invariant-loop-byte
+invariant-loop-byte l = Writes (take l.byte-index l.bytes) l.initial.words l.words

@@ -11,20 +11,19 @@ use Rattle.runs.proofs.mask8.Goals as goal
 
 pub loop-i-init : goal.loop-i-init
 unfolding mask_of
-loop-i-init c = (omega arith, λ l h. refl)
+loop-i-init c = λ l h. refl
 
 pub overflow_add-s-in-loop-i : goal.overflow_add-s-in-loop-i
 overflow_add-s-in-loop-i c =
     let v = c.loop-i in
     let p = c.requires in
-    let e = eight_turn p.flags c.args.t c.args.j v.i v.s p.weighed (omega (arith, p.inside, p.eight)) p.eight c.loop-i-test.true
-    (v.invariant.1 p.flags p.weighed) in
-    omega (arith, mask_lt (v.i + 1) (drop c.args.j p.flags), pow_mono {i = v.i + 1} {j = 8} (omega arith))
+    let e = eight_turn p.flags c.args.t c.args.j v.i v.s p.weighed (omega (arith, p.inside, p.eight, c.loop-i-test.true)) p.eight
+    (omega (arith, c.loop-i-test.true)) (v.invariant p.flags p.weighed) in
+    record { fits = omega (arith, e, c.loop-i-test.true, mask_lt (v.i + 1) (drop c.args.j p.flags), pow_mono {i = v.i + 1} {j = 8} (omega arith)) }
 
 pub loop-i-preserved : goal.loop-i-preserved
 loop-i-preserved c =
     let v = c.loop-i in
-    let p = c.requires in (
-      omega arith,
-      λ l h. eight_turn l c.args.t c.args.j v.i v.s h (omega (arith, p.inside, p.eight)) p.eight c.loop-i-test.true (v.invariant.1 l h),
-    )
+    let p = c.requires in
+    λ l h. eight_turn l c.args.t c.args.j v.i v.s h (omega (arith, p.inside, p.eight, c.loop-i-test.true)) p.eight
+    (omega (arith, c.loop-i-test.true)) (v.invariant l h)

@@ -13,5 +13,7 @@ unfolding nz
 loop-i-preserved c =
     let l = c.loop-i in
     let b = c.args.b in
-    let more = weigh_turn (map nz b) l.t l.i (nz (get_or b l.i 0)) (omega arith) (flag_at b l.i) l.invariant.2 in
-    (omega arith, length-set l.t l.i _ ∙ l.invariant.1, more)
+    let inv = l.invariant in
+    let long = inv.0 in
+    let more = weigh_turn (map nz b) l.t l.i (nz (get_or b l.i 0)) (omega (arith, c.loop-i-test.true, long)) (flag_at b l.i) inv.1 in
+    (length-set l.t l.i _ ∙ inv.0, more)

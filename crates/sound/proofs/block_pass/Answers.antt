@@ -1,7 +1,9 @@
 -- `block_pass` meets its contract. The loop's invariant: what has been found of the runs before r.
 -- Assumes nothing.
-use Rattle.std.proofs.Common.{arith}
-use Rattle.sound.proofs.TestLaws.{byte_le, byte_fits}
+use Rattle.std.proofs.Common.{◌+◌, ◌-◌, not, refl, arith}
+use mir.Val.{bool_byte}
+use Rattle.frame.specs.Words.{start_place, end_place, run_end}
+use Rattle.sound.proofs.TestLaws.{byte_le, byte_fits, wrap_low, wrap_back}
 use Rattle.sound.proofs.RunPassLaws.{block_more, wrong_few, roots_few, sizes_small}
 use Rattle.sound.proofs.block_pass.Goals as goal
 
@@ -13,15 +15,18 @@ overflow_add-roots c = byte_fits (search byte_le) (roots_few _ _ _ c.loop-r.inva
 
 pub loop-r-preserved : goal.loop-r-preserved
 loop-r-preserved c =
-    block_more _ _ _ (λ j. omega (arith, c.shared_slice_known-in-loop-r-4-1.given j)) c.loop-r.invariant (omega arith) (omega arith)
-    c.wrapping_sub_u32.ensures.value c.wrapping_add_u32-cells.ensures.value (omega arith) c.wrapping_sub_u32-last.ensures.value
+    block_more _ _ _ (λ j. omega (arith, c.type_inv.words j)) c.loop-r.invariant (omega arith) (wrap_low _)
+    (wrap_back _ _ (omega (arith, c.type_inv.words (end_place c.args.lines c.loop-r.r)))
+    (omega (arith, c.type_inv.words (start_place c.args.lines c.loop-r.r)))) refl
+    (wrap_low (run_end c.args.lines c.args.words.now c.loop-r.r + (4294967296 - bool_byte (not c.args.left))))
+    (wrap_back _ _ (omega (arith, c.type_inv.words (end_place c.args.lines c.loop-r.r))) (omega (arith, byte_le (not c.args.left))))
 
 -- the sum of all, and its first part
 pub overflow_add-sizes-2 : goal.overflow_add-sizes-2
 overflow_add-sizes-2 c =
     omega (
       arith,
-      sizes_small _ _ _ (λ k. omega (arith, c.shared_slice_known-1.given k)) c.loop-r.invariant.so_far
+      sizes_small _ _ _ (λ k. omega (arith, c.type_inv.words k)) c.loop-r.invariant.so_far
           (omega (arith, c.loop-r.invariant.upto, c.requires.ready.few)),
     )
 

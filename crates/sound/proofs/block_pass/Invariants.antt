@@ -1,6 +1,6 @@
 -- `block_pass` meets its contract. The loop's invariant: what has been found of the runs before r.
 -- Assumes nothing.
-use Rattle.std.proofs.Common.{◌+◌, ◌-◌, ◌*◌}
+use Rattle.std.proofs.Common.{◌+◌, ◌*◌}
 use Rattle.sound.proofs.RunPassLaws.{BlockTo}
 use Rattle.sound.proofs.block_pass.Given as goal
 
@@ -14,7 +14,3 @@ invariant-loop-r l =
       last = l.last;
       sizes = l.found.sizes + l.low + 65536 * l.high;
     }) l.low l.high l.r
-
-abbrev pub decreases-loop-r : goal.decreases-loop-r
-decreases-loop-r l =
-    l.b - l.r

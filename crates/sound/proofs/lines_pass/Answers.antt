@@ -27,4 +27,4 @@ loop-i-preserved c =
     ]
 
 pub returns : goal.returns
-returns c = lines_done _ _ _ _ c.loop-i.invariant (omega arith)
+returns c = lines_done _ _ _ _ c.loop-i.invariant (omega arith) c.then_some.ensures

@@ -8,8 +8,8 @@ use Rattle.sound.proofs.words_sound.Goals as goal
 pub returns-then-words-runs : goal.returns-then-words-runs
 returns-then-words-runs c = start_wrong _ _ _ _ _ _ c.most_runs-most.ensures c.if-words-runs.true
 
-pub returns-then-not-lines : goal.returns-then-not-lines
-returns-then-not-lines c = lines_wrong _ _ _ _ _ _ c.requires c.lines_pass-lines.ensures c.if-not-lines.true
+pub returns-in_default : goal.returns-in_default
+returns-in_default c = lines_wrong _ _ _ _ _ _ c.requires c.lines_pass.ensures c.in_default.is
 
 pub overflow_sub-result : goal.overflow_sub-result
 overflow_sub-result c = roots_few _ _ _ c.runs_pass-found.ensures
@@ -17,5 +17,5 @@ overflow_sub-result c = roots_few _ _ _ c.runs_pass-found.ensures
 pub returns : goal.returns
 returns c =
     let P = c.requires in
-    answer _ _ _ _ _ _ P c.lines_pass-lines.ensures (lines_ready _ _ _ _ _ c.most_runs-most.ensures P _ c.if-words-runs.false).first
-    c.if-not-lines.false c.runs_pass-found.ensures
+    answer _ _ _ _ _ _ P c.lines_pass.ensures (lines_ready _ _ _ _ _ c.most_runs-most.ensures P _ c.if-words-runs.false).first
+    _ c.in-Some.is c.runs_pass-found.ensures

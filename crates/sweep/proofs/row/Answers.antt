@@ -17,14 +17,14 @@ pub loop-m-preserved : goal.loop-m-preserved
 loop-m-preserved c =
     let l = c.loop-m in
     row_turn c.requires.sized l.invariant (omega arith)
-    (sym c.starts_before.ensures ∙ c.if-starts_before.true)
+    (sym c.starts_before.ensures ∙ c.if-not-starts_before.false)
     c.unite.ensures
 
-pub returns-else-starts_before : goal.returns-else-starts_before
-returns-else-starts_before c =
+pub returns-then-not-starts_before : goal.returns-then-not-starts_before
+returns-then-not-starts_before c =
     rw (off_back c.args.lo c.requires.is_lo)
     at (row_done c.requires.sized c.loop-m.invariant c.requires.order
-    (λ h. sym c.starts_before.ensures ∙ c.if-starts_before.false))
+    (λ h. sym c.starts_before.ensures ∙ c.if-not-starts_before.true))
 
 pub returns-after-loop-m : goal.returns-after-loop-m
 returns-after-loop-m c =

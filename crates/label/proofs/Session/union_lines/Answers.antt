@@ -16,8 +16,8 @@ union_block-joins-requires c =
     let long = sound_bytes c.args.self p.words structure-long X.given.is_sound in
     feed_ready c.args.self p.words c.args.k p.cells c.args.g _ c.args.new X long
 
-pub plus-figures-requires : goal.plus-figures-requires
-plus-figures-requires c =
+pub plus-requires : goal.plus-requires
+plus-requires c =
     let structure-long : length c.args.self.structure ≡ 81 = search rules in
     let p = c.requires in
     let X = p.extracted in
@@ -26,8 +26,8 @@ plus-figures-requires c =
     feed_figures_fit c.args.self p.words c.args.k p.cells c.args.g _ c.args.new X long
     u.new.words u.result u.ensures
 
-pub overflow_add-s : goal.overflow_add-s
-overflow_add-s c =
+pub overflow_add-result : goal.overflow_add-result
+overflow_add-result c =
     let p = c.requires in
     record { fits = omega (arith, feed_lines_fit c.args.self p.words c.args.k p.cells p.extracted.given) }
 
@@ -38,4 +38,4 @@ returns c =
     λ ws cells X.
     feed_done c.args.self ws c.args.k cells c.args.g _ c.args.new X
     (sound_bytes c.args.self ws structure-long X.given.is_sound) u.new.words u.result u.ensures
-    c.plus-figures.ensures
+    c.plus.ensures

@@ -4,16 +4,16 @@ use Rattle.label.proofs.RefusedLaws.{failed_widen}
 use Rattle.label.proofs.WidenBlockLaws.{passed_ready, passed_bytes, passed_widen}
 use Rattle.label.proofs.Session.widen.Goals as goal
 
-pub returns-then-failed : goal.returns-then-failed
-returns-then-failed c = failed_widen c.widen_check-found.ensures c.failed.ensures c.if-failed.true c.answer_feed.ensures
+pub returns-in-Err : goal.returns-in-Err
+returns-in-Err c = failed_widen c.widen_check.ensures c.in-Err.is
 
 pub union_block-joins-requires : goal.union_block-joins-requires
-union_block-joins-requires c = passed_ready _ _ _ c.widen_check-found.ensures c.failed.ensures c.if-failed.false
+union_block-joins-requires c = passed_ready _ _ _ c.widen_check.ensures c.in-Ok.is
 
-pub with_structure-requires : goal.with_structure-requires
-with_structure-requires c = passed_bytes _ _ _ c.widen_check-found.ensures c.failed.ensures c.if-failed.false
+pub with_structure-session-requires : goal.with_structure-session-requires
+with_structure-session-requires c = passed_bytes _ _ _ c.widen_check.ensures c.in-Ok.is
 
-pub returns : goal.returns
-returns c =
-    passed_widen _ _ _ c.widen_check-found.ensures c.failed.ensures c.if-failed.false
-    c.union_block-joins.ensures c.with_structure.ensures c.answer_feed-2.ensures
+pub returns-in-Ok : goal.returns-in-Ok
+returns-in-Ok c =
+    passed_widen _ _ _ c.widen_check.ensures c.in-Ok.is c.union_block-joins.ensures c.with_structure-session.ensures
+    c.fed_lines.ensures

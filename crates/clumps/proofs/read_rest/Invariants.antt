@@ -1,6 +1,0 @@
--- `read_rest` is safe and ends. The measure is the number of turns that are left.
--- Assumes nothing.
-use Rattle.clumps.proofs.read_rest.Given as goal
-
-abbrev pub decreases-loop-turns : goal.decreases-loop-turns
-decreases-loop-turns l = l.turns
