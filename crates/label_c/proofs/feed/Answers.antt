@@ -1,15 +1,10 @@
 -- `feed` keeps its promise: it is not made, or it is what the feed and its end are.
 -- Assumes nothing.
 use Rattle.std.proofs.lemmas.Result.{err_from_is_err_and}
-use Rattle.label_c.proofs.CallLaws.{feed_early, feed_made}
+use Rattle.label_c.proofs.CallLaws.{feed_early}
 use Rattle.label_c.proofs.feed.Goals as goal
 
 pub returns-in_err-session : goal.returns-in_err-session
 returns-in_err-session g c =
     let p = err_from_is_err_and c.from_residual.result c.from_residual.ensures.1 in
     rw (p.1, p.2) (feed_early _ c.in_err-session.ensures)
-
-pub returns : goal.returns
-returns g c =
-    let h = c.in_ok-session.ensures in
-    feed_made h.0 h.1 c.feed.ensures c.end_feed.ensures
