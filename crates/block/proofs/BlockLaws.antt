@@ -207,6 +207,10 @@ module _ (left : Bool) (w L fed runs : ℕ) (flags : List Bool) where
 
 module _ {A : Type 0} (f : A → Bool) (cells : List A) {left : Bool} {w L fed runs k : ℕ} {ws : List ℕ}
     (R : BlockRoom left w L fed runs k (map f cells) ws) where
+  -- the cells of line i are there
+  pub cells_fit : (i : ℕ) → i < k → i * w + w ≤ length cells
+  cells_fit i h = omega (arith, line_within i k w h, R.whole, length-map cells f)
+
   module _ {i : ℕ} (h : i < k) {now : List ℕ} {n c : ℕ}
       (B : Block left w L fed runs i (map f cells) ws now (record { runs = n; cells = c })) where
     -- the place of its first run is within the words

@@ -2,28 +2,36 @@
 use crate::counts::Counts;
 use crate::plain::{Accepted, Plain, Refusal};
 use crate::random::{Call, draw_call};
+use arrayvec::ArrayVec;
 use flood::layout::word;
 use flood::{CELLS, Groups};
 use frame::Figures;
 use samples::first;
-use std::alloc::{AllocError, Global};
 use trial::{NumberKind, OutputKind};
 
+// The most numbers of a list: of 60 calls, and three left over.
+const NUMBERS: usize = 243;
+
+// The places for answers.
+pub const ANSWERS: usize = 16384;
+
+// The numbers answered are as many as there are places for, and all below 2^32; `answered` counts those past the places too.
 #[derive(Drop)]
 pub struct List {
-    pub calls: Vec<usize>,
-    pub answers: Vec<u64>,
+    pub calls: ArrayVec<usize, NUMBERS>,
+    pub answers: ArrayVec<u32, ANSWERS>,
+    pub answered: usize,
 }
 
 // The number answered to what is no call.
-const NO_CALL: u64 = 101;
+const NO_CALL: u32 = 101;
 
 // The eight numbers of an answer, of which the last three are 0.
-fn numbers(answer: Result<Accepted, Refusal>) -> [u64; 8] {
+fn numbers(answer: Result<Accepted, Refusal>) -> [u32; 8] {
     let number = match answer {
         Ok(_) => 0,
         Err(Refusal::NoCall) => NO_CALL,
-        Err(Refusal::Cause(cause)) => cause.number() as u64,
+        Err(Refusal::Cause(cause)) => cause.number(),
     };
     let Accepted { count, figures } = answer.unwrap_or(Accepted {
         count: 0,
@@ -32,10 +40,10 @@ fn numbers(answer: Result<Accepted, Refusal>) -> [u64; 8] {
     let Figures { runs, joins, cells } = figures;
     [
         number,
-        count as u64,
-        runs as u64,
-        joins as u64,
-        cells as u64,
+        word(count),
+        word(runs),
+        word(joins),
+        word(cells),
         0,
         0,
         0,
@@ -60,21 +68,31 @@ fn written(into: OutputKind, groups: &Groups) -> [u32; CELLS] {
 }
 
 impl List {
-    pub fn new(alloc: Global) -> List {
+    pub fn new() -> List {
         List {
-            calls: Vec::new(alloc),
-            answers: Vec::new(alloc),
+            calls: ArrayVec::new(),
+            answers: ArrayVec::new(),
+            answered: 0,
+        }
+    }
+
+    // Another number of an answer.
+    fn put(&mut self, number: u32) {
+        if !self.answers.is_full() {
+            self.answers.push(number);
+        }
+        self.answered = self.answered.wrapping_add(1);
+    }
+
+    fn put_all(&mut self, numbers: [u32; 8]) {
+        for number in numbers {
+            self.put(number);
         }
     }
 
     // The answer, and for a reading or a size call, unless it is no call, the places of its output.
-    fn answer(
-        &mut self,
-        call: Call,
-        answer: Result<Accepted, Refusal>,
-        groups: &Groups,
-    ) -> Result<(), AllocError> {
-        self.answers.extend_from_slice(&numbers(answer))?;
+    fn answer(&mut self, call: Call, answer: Result<Accepted, Refusal>, groups: &Groups) {
+        self.put_all(numbers(answer));
         let Call::Read {
             into,
             places,
@@ -82,32 +100,26 @@ impl List {
             ..
         } = call
         else {
-            return Ok(());
+            return;
         };
         let output = match answer {
             Ok(_) => written(into, groups),
             Err(Refusal::Cause(_)) => [held(into, value); CELLS],
-            Err(Refusal::NoCall) => return Ok(()),
+            Err(Refusal::NoCall) => return,
         };
         for place in first(&output, places) {
-            self.answers.push(u64::from(*place))?;
+            self.put(*place);
         }
-        Ok(())
     }
 
-    // Another random call, whose span is of these cells.
-    fn add_call(
-        &mut self,
-        plain: &mut Plain,
-        cells: &[u8],
-        counts: &mut Counts,
-    ) -> Result<(), AllocError> {
+    // Another random call, whose span is of these cells. It is answered even if there is no room for it, so that the answers differ then.
+    fn add_call(&mut self, plain: &mut Plain, cells: &[u8], counts: &mut Counts) {
         let groups = plain.groups();
         let call = draw_call(plain, groups.count.n, counts.tally.draw());
         let answer = plain.make(call, cells, &groups);
         counts.count_call(call, plain, answer.err());
-        self.calls.extend_from_slice(&call.numbers())?;
-        self.answer(call, answer, &groups)
+        let _ = self.calls.try_extend_from_slice(&call.numbers());
+        self.answer(call, answer, &groups);
     }
 
     // So many random calls.
@@ -117,20 +129,26 @@ impl List {
         plain: &mut Plain,
         cells: &[u8],
         counts: &mut Counts,
-    ) -> Result<(), AllocError> {
+    ) {
         for _ in 0..count {
-            self.add_call(plain, cells, counts)?;
+            self.add_call(plain, cells, counts);
         }
-        Ok(())
     }
 
     // Numbers left over at the end of a list are no call.
-    pub fn answer_rest(&mut self, rest: usize, counts: &mut Counts) -> Result<(), AllocError> {
+    pub fn answer_rest(&mut self, rest: usize, counts: &mut Counts) {
         if rest == 0 {
-            return Ok(());
+            return;
         }
         counts.count_refusal(Refusal::NoCall);
-        self.answers
-            .extend_from_slice(&numbers(Err(Refusal::NoCall)))
+        self.put_all(numbers(Err(Refusal::NoCall)));
+    }
+
+    // Adds zeros to the calls, up to so many numbers.
+    pub fn fill(&mut self, count: usize) {
+        let zeros = count.saturating_sub(self.calls.len());
+        let _ = self
+            .calls
+            .try_extend_from_slice(first(&[0; NUMBERS], zeros));
     }
 }

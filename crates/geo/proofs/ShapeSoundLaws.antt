@@ -145,7 +145,7 @@ module _ (rank : ℕ) (shape structure : List ℕ) (ranked : bad_rank (entries r
     sided : lopsided (length (entries rank shape)) (entries (3 ^ rank) structure) ≡ lopsided rank structure
     sided = ap (λ (r : ℕ). lopsided r (entries (3 ^ rank) structure)) (length_entries rank shape) ∙ lopsided_entries rank structure
 
-    rest_decides : (b : Bool) → b ≡ lopsided rank structure → (needed : ℕ) → needed ≡ words_of g
+    pub rest_decides : (b : Bool) → b ≡ lopsided rank structure → (needed : ℕ) → needed ≡ words_of g
         → (not b && leb needed memory) && leb fed g.lines ≡ told
     rest_decides b is_b needed is =
         bool_same ((not b && leb needed memory) && leb fed g.lines) told

@@ -3,14 +3,14 @@
 use mathlib.Core.Path.{◌≡◌, refl, sym, ap, ◌∙◌}
 use mathlib.Core.Bool.{Bool}
 use mathlib.Core.List.{List}
-use Prim.Native.Nat.{ℕ, suc, ◌-◌}
+use Prim.Native.Nat.{ℕ, suc, ◌-◌, ◌<◌}
 use native.Mathlib.Omega.{arith}
 use lib.ListN.{length}
 use Rattle.std.proofs.Common.{Result, Err}
 use Rattle.frame.specs.Kinds.{Number, Value}
 use Rattle.frame.specs.Causes.{open_cause}
 use Rattle.frame.specs.Plain.{Answer, refused, unless}
-use Rattle.frame.proofs.PlainLaws.{unless_some, kept_old}
+use Rattle.frame.proofs.PlainLaws.{unless_some, unless_same, kept_old}
 use Rattle.geo.specs.declared.Geo.{Geo}
 use Rattle.causes.specs.declared.Cause.{Cause}
 use Rattle.causes.specs.Cases.{cause_number, check_number}
@@ -35,18 +35,25 @@ module _ (c : Cause) {n : ℕ} (is : cause_number c ≡ n) where
   pub says_cause : (a : Answer) → refused (cause_number c) ≡ unless n a
   says_cause a = ap (λ (x : ℕ). refused x) (is ∙ cause_above) ∙ sym (unless_some n (n - 1) a cause_above)
 
--- so of a reading
-pub refused_read : (kind : Number) (s : Session) (ws : List ℕ) (out : List (Value kind)) (c : Cause)
+-- ---- a reading that has a cause, whose number is n
+
+pub refused_read : (kind : Number) (s : Session) (ws : List ℕ) (out : List (Value kind)) (n : ℕ) → n ≡ read_cause_of kind s ws (length out)
+    → 0 < n → (a b : Answer) → a ≡ unless n b → (s' : Session) → s' ≡ s → ReadPromise kind s ws out a s' ws out
+refused_read kind s ws out n is h a b said s' same =
+    let above : read_cause_of kind s ws (length out) ≡ suc (read_cause_of kind s ws (length out) - 1) = omega (arith, is, h) in
+    record {
+      said = said ∙ unless_same n (read_cause_of kind s ws (length out)) b (counted_of s ws) is (λ none. absurd (omega (arith, h, none)));
+      session = same;
+      words = sym (kept_old ws (with_names s ws) _ _ above);
+      output = sym (kept_old out (numbers_held s ws kind) _ _ above);
+    }
+
+-- so of one that answers its cause
+pub refused_reading : (kind : Number) (s : Session) (ws : List ℕ) (out : List (Value kind)) (c : Cause)
     → cause_number c ≡ read_cause_of kind s ws (length out) → {r : Result Counted Cause} → r ≡ Err c
     → ReadPromise kind s ws out (read_answer r) s ws out
-refused_read kind s ws out c is said =
-    let z = cause_above c is in
-    record {
-      said = ap read_answer said ∙ says_cause c is (counted_of s ws);
-      session = refl;
-      words = sym (kept_old ws (with_names s ws) _ _ z);
-      output = sym (kept_old out (numbers_held s ws kind) _ _ z);
-    }
+refused_reading kind s ws out c is said =
+    refused_read kind s ws out (cause_number c) is (positive c) _ (counted_of s ws) (ap read_answer said ∙ says_cause c refl (counted_of s ws)) s refl
 
 -- ---- where the check of a call failed
 
@@ -96,7 +103,7 @@ module _ {s : Session} {ws structure : List ℕ} {r : Result Geo Cause} (F : Rec
 module _ {kind : Number} {s : Session} {ws : List ℕ} {out : List (Value kind)} {r : Result Geo Cause}
     (F : RecordFound s (read_cause_of kind s ws (length out)) r) {c : Cause} (is : r ≡ Err c) where
   pub failed_read : {a : Result Counted Cause} → a ≡ Err c → ReadPromise kind s ws out (read_answer a) s ws out
-  failed_read said = refused_read kind s ws out c (failed_number F is) said
+  failed_read said = refused_reading kind s ws out c (failed_number F is) said
 
 module _ {s : Session} {ws out : List ℕ} {r : Result Geo Cause} (F : RecordFound s (sizes_cause_of s ws (length out)) r)
     {c : Cause} (is : r ≡ Err c) where

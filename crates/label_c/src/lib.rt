@@ -50,7 +50,7 @@ fn feed<T: runs::Nz>(
 ) -> Result<(), Refusal>
     ensures { FeedLent T.nonzero rec words k cells answer (number_of result) }
 {
-    let session = record_c::record_of(rec, answer.len())?;
+    let session = record_c::try_record_of(rec, answer.len())?;
     record_c::end_feed(session.feed(words, k, cells), rec, answer)
 }
 
@@ -62,7 +62,7 @@ fn widen(
 ) -> Result<(), Refusal>
     ensures { WidenLent rec words structure answer (number_of result) }
 {
-    let session = record_c::record_of(rec, answer.len())?;
+    let session = record_c::try_record_of(rec, answer.len())?;
     record_c::end_feed(session.widen(words, structure), rec, answer)
 }
 
@@ -74,7 +74,7 @@ fn read<T: write::FromU32>(
 ) -> Result<(), Refusal>
     ensures { ReadOf T.kind T.value rec words out answer (number_of result) }
 {
-    let session = record_c::record_of(rec, answer.len())?;
+    let session = record_c::try_record_of(rec, answer.len())?;
     record_c::end_read(session.read(words, out).answer, answer)
 }
 
@@ -86,7 +86,7 @@ fn sizes(
 ) -> Result<(), Refusal>
     ensures { SizesLent rec words sizes answer (number_of result) }
 {
-    let session = record_c::record_of(rec, answer.len())?;
+    let session = record_c::try_record_of(rec, answer.len())?;
     record_c::end_read(session.sizes(words, sizes).answer, answer)
 }
 

@@ -158,8 +158,8 @@ impl Tested {
         turn
     }
 
-    // A change to this frame's structure, that should be refused with this cause, if there is one. What is laid out already stands, names
-    // too.
+    // A change to this frame's structure, that should be refused with this cause, if there is one. The runs of the lines fed are laid out by
+    // the frame's own cells; names stand.
     pub fn change(&mut self, frame: Frame, cause: Option<Cause>) -> Turn {
         let done = self.session.widen(&mut self.words.all, frame.structure);
         let lines = self.session.fed;
@@ -167,6 +167,7 @@ impl Tested {
             Some(cause) => self.refuse(done, cause),
             None => {
                 let wider = trial::under(self.session, frame.structure);
+                self.laid.lay(frame, lines);
                 self.accept(done, wider, lines, &Right::of(frame, lines))
             }
         }

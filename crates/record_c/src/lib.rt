@@ -6,7 +6,7 @@ ghost use Rattle.std.specs.Prelude.{◌≡◌, ◌∷◌, length};
 ghost use Rattle.frame.specs.Overlay.{overlay};
 ghost use Rattle.overlay.specs.Writers.{Writes};
 ghost use Rattle.label.specs.Cases.{open_number, opened, feed_answer, read_answer};
-ghost use Rattle.record_c.specs.Records.{figure_words, words_of};
+ghost use Rattle.record_c.specs.Records.{figure_words, words_of, record_of, RecordReady};
 ghost use Rattle.record_c.specs.Early.{refusal_number, StructureHeld, RecordHeld};
 ghost use Rattle.record_c.specs.Ends.{number_of, record_after, FeedEnd, ReadEnd};
 ghost use Rattle.record_c.specs.declared.Refusal.TheVariants.{Cause};
@@ -71,8 +71,19 @@ fn structure_of(words: &[u64]) -> Result<[u8; 81], causes::Cause>
     Ok(structure)
 }
 
-// The record that words hold, for a call whose answer has so many words.
-pub fn record_of(rec: &[u64], answer: usize) -> Result<label::Session, Refusal>
+// The record of words that are known to hold one.
+pub fn record_of(rec: &[u64]) -> label::Session
+    requires { RecordReady rec.now }
+    ensures { result ≡ record_of rec.now }
+{
+    match try_record_of(rec, ANSWER_WORDS) {
+        Ok(session) => session,
+        Err(_) => unreachable!(),
+    }
+}
+
+// The record that any words hold, for a call whose answer has so many words, or why there is none.
+pub fn try_record_of(rec: &[u64], answer: usize) -> Result<label::Session, Refusal>
     ensures { RecordHeld rec.now answer result }
 {
     if rec.len() < RECORD_WORDS || answer < ANSWER_WORDS {

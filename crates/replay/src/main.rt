@@ -18,14 +18,14 @@
 mod cells;
 mod stored;
 
+use arrayvec::ArrayVec;
 use causes::Cause;
 use cells::Written;
 use flood::layout::UNREAD;
 use flood::{CELLS, Frame};
 use label::Counted;
-use std::alloc::{AllocError, Global};
-use std::io::{self, BufRead, BufReader, Read};
-use stored::{Fault, Said, Stored};
+use std::io::{self, Read, Write};
+use stored::{Fields, Said, Stored, number};
 use trial::{CellKind, Labelled, WholeCall, add, add_at, label_cells};
 
 // ---- one answer
@@ -43,22 +43,33 @@ fn n_of(answer: Result<Counted, Cause>) -> Said<'static> {
 }
 
 // Whether every place of the output is as it should be: those past the labels are as before the call.
-fn holds(output: &[u32; CELLS], labels: &[Option<usize>]) -> bool {
-    let (written, others) = output.split_at(labels.len().min(CELLS));
-    let written = written.iter().map(|x| Some(*x as usize));
-    written.eq(labels.iter().copied()) && others.iter().all(|x| *x == UNREAD)
+fn holds(output: &[u32; CELLS], mut labels: Fields) -> bool {
+    let alike = output.iter().all(|x| match labels.next() {
+        Some(label) => number(label) == Some(*x as usize),
+        None => *x == UNREAD,
+    });
+    alike && labels.next().is_none()
 }
 
 // Whether n, the count of nonzero cells and the output are what the line says.
 fn agrees(got: &Labelled, stored: &Stored) -> bool {
     let cells = got.answer.map_or(0, |counted| counted.figures.cells);
-    let others = stored.labels.iter().filter(|label| **label != Some(0));
-    n_of(got.answer) == stored.n && cells == others.count() && holds(&got.output, &stored.labels)
+    let others = stored.labels.filter(|label| *label != b"0".as_slice());
+    n_of(got.answer) == stored.n && cells == others.count() && holds(&got.output, stored.labels)
 }
 
-// Labels the frame of a line, with cells of a kind, and says whether all is as the line says.
-fn label<T: Written>(alloc: Global, stored: &Stored, words: &mut [u32]) -> Result<bool, Fault> {
-    let cells: Vec<T> = stored.cells_of(alloc)?;
+// Labels the frame of a line, and says whether all is as the line says; None where a character is no cell of its kind.
+fn label(stored: &Stored, words: &mut [u32]) -> Option<bool> {
+    match stored.cell_kind {
+        CellKind::U8 => label_from(stored, words, &mut [0u8; CELLS]),
+        CellKind::U16 => label_from(stored, words, &mut [0u16; CELLS]),
+        CellKind::I16 => label_from(stored, words, &mut [0i16; CELLS]),
+        CellKind::F32 => label_from(stored, words, &mut [0.0f32; CELLS]),
+    }
+}
+
+fn label_from<T: Written>(stored: &Stored, words: &mut [u32], room: &mut [T]) -> Option<bool> {
+    let cells = stored.cells_of(room)?;
     let call = WholeCall {
         cells: stored.cell_kind,
         numbers: stored.number_kind,
@@ -66,7 +77,7 @@ fn label<T: Written>(alloc: Global, stored: &Stored, words: &mut [u32]) -> Resul
         blocks: stored.blocks,
     };
     let frame = Frame::new(&stored.shape, &stored.structure, &[]);
-    Ok(agrees(&label_cells(frame, words, call, &cells), stored))
+    Some(agrees(&label_cells(frame, words, call, cells), stored))
 }
 
 // ---- lines
@@ -79,17 +90,12 @@ struct Tried {
     agreed: bool,
 }
 
-// A line with the byte 10 at its end. One with none is too long, or stands after the last such byte, and does not have the form.
-fn try_line(alloc: Global, line: &[u8], words: &mut [u32]) -> Result<Tried, Fault> {
-    let line = line.strip_suffix(b"\n").ok_or(Fault::Malformed)?;
-    let stored = Stored::parse(alloc, line)?;
-    let agreed = match stored.cell_kind {
-        CellKind::U8 => label::<u8>(alloc, &stored, words)?,
-        CellKind::U16 => label::<u16>(alloc, &stored, words)?,
-        CellKind::I16 => label::<i16>(alloc, &stored, words)?,
-        CellKind::F32 => label::<f32>(alloc, &stored, words)?,
-    };
-    Ok(Tried {
+// A line with the byte 10 at its end; None where it does not have the form. One with no such byte is too long, or stands after the last
+// of them.
+fn try_line(line: &[u8], words: &mut [u32]) -> Option<Tried> {
+    let stored = Stored::parse(line.strip_suffix(b"\n")?)?;
+    let agreed = label(&stored, words)?;
+    Some(Tried {
         rank: stored.shape.len(),
         declined: stored.n == Said::NONE,
         agreed,
@@ -126,18 +132,16 @@ impl Counts {
         }
     }
 
-    // The next line.
-    fn count(&mut self, tried: Result<Tried, Fault>) -> Result<(), AllocError> {
+    // The next line; None is one that does not have the form.
+    fn count(&mut self, tried: Option<Tried>) {
         add(&mut self.lines);
         match tried {
-            Ok(tried) => self.count_tried(tried),
-            Err(Fault::Malformed) => {
+            Some(tried) => self.count_tried(tried),
+            None => {
                 add(&mut self.malformed);
                 self.first_malformed = self.first_malformed.or(Some(self.lines));
             }
-            Err(Fault::Memory(e)) => return Err(e),
         }
-        Ok(())
     }
 
     fn report(&self, rt: &impl Print) -> io::Result<()> {
@@ -154,35 +158,48 @@ impl Counts {
     }
 }
 
+// ---- the input
+
 // The longest line, with the byte 10 at its end.
 const MOST_BYTES: usize = 1501;
 
-// The next line of the input, of which no more is kept than the longest line has. It is empty at the end.
-fn read_line(input: &mut impl BufRead, line: &mut Vec<u8>) -> io::Result<()> {
-    line.clear();
-    let kept = Read::take(input.by_ref(), MOST_BYTES as u64).read_until(b'\n', line)?;
-    if kept == MOST_BYTES && !line.ends_with(b"\n") {
-        input.skip_until(b'\n')?;
+// A line as far as it was read. No more of it is kept than the longest has. All that is read stands in arrays: with the heap a run could
+// end for want of memory, with no report.
+type Line = ArrayVec<u8, MOST_BYTES>;
+
+// Counts the lines that end in the next bytes of the input.
+fn count_lines(text: &[u8], line: &mut Line, words: &mut [u32], counts: &mut Counts) {
+    for part in text.split_inclusive(|c| *c == b'\n') {
+        // The line takes as much as it has room for.
+        let _ = line.write(part);
+        if part.ends_with(b"\n") {
+            counts.count(try_line(line, words));
+            line.clear();
+        }
     }
-    Ok(())
 }
 
 // Reads to the end of the input, or to where it can't be read: what was read till then counts. A proved loop has to end, and nothing says
 // that an input does: so it has a number of turns that no input uses up.
-fn main(rt: HostRuntime) -> io::Result<()> {
-    let alloc = rt.alloc();
-    let mut input = BufReader::new(alloc, rt.reader())?;
-    let mut line = Vec::with_capacity(alloc, MOST_BYTES)?;
-    let mut words = [7u32; WORDS];
-    let mut counts = Counts::default();
+fn count_all(input: &mut impl Read, words: &mut [u32], counts: &mut Counts) {
+    let mut line = Line::new();
+    let mut text = [0u8; 8192];
     for _ in 0..u64::MAX {
-        let read = read_line(&mut input, &mut line);
-        if !line.is_empty() {
-            counts.count(try_line(alloc, &line, &mut words))?;
-        }
-        if line.is_empty() || read.is_err() {
+        let n = input.read(&mut text).unwrap_or(0);
+        if n == 0 {
             break;
         }
+        count_lines(&text[..n], &mut line, words, counts);
     }
-    counts.report(&rt)
+    if !line.is_empty() {
+        counts.count(try_line(&line, words));
+    }
+}
+
+// The status is 0 whatever the counts are, and so where they can't be written too: whoever reads them sees that they are missing.
+fn main(rt: HostRuntime) {
+    let mut words = [7u32; WORDS];
+    let mut counts = Counts::default();
+    count_all(&mut rt.reader(), &mut words, &mut counts);
+    let _ = counts.report(&rt);
 }

@@ -10,6 +10,7 @@ use Rattle.frame.specs.Words.{start_place, size_place, run_start, run_end, paren
 use Rattle.forest.specs.Forest.{own, roots, root_sizes}
 use Rattle.forest.proofs.ForestLaws.{roots_others}
 use Rattle.sound.specs.declared.Runs.{Runs}
+use Rattle.sound.specs.declared.TheConstants.{BLOCK}
 use Rattle.sound.specs.Passes.{falls, wrong_run, Nonempty, RunsReady, RunsFound, BlockReady}
 use Rattle.sound.proofs.TestLaws.{byte_le, byte_no_gap, counts_more, sums_more}
 
@@ -49,7 +50,7 @@ module _ (L : ℕ) (left : Bool) (ws : List ℕ) where
 
   -- all blocks before this one
   pub record RunsTo (runs : ℕ) (found : Runs) (block : ℕ) : Type 0 where
-    pub so_far : RunsFound L ws left (min (65536 * block) runs) found
+    pub so_far : RunsFound L ws left (min (BLOCK * block) runs) found
 
   -- a block from run a to before b, before run r: what is found, where `before` was the sum before the block, and low and high are the
   -- sums of the halves since
@@ -165,8 +166,8 @@ module _ (L : ℕ) (left : Bool) (ws : List ℕ) where
   block_done T = found_at T.so_far T.upto
 
   -- a block that there is begins before the last run
-  module _ {runs block : ℕ} {found : Runs} (T : RunsTo runs found block) (begun : 65536 * block < runs) where
-    pub block_ready : RunsReady L runs ws → BlockReady L ws left (65536 * block) (min runs (65536 * block + 65536)) found
+  module _ {runs block : ℕ} {found : Runs} (T : RunsTo runs found block) (begun : BLOCK * block < runs) where
+    pub block_ready : RunsReady L runs ws → BlockReady L ws left (BLOCK * block) (min runs (BLOCK * block + BLOCK)) found
     block_ready R = record {
       ready = record { memory = omega (arith, R.memory); few = omega (arith, R.few) };
       up = omega arith;
@@ -174,8 +175,8 @@ module _ (L : ℕ) (left : Bool) (ws : List ℕ) where
       before = found_at T.so_far (omega arith) (omega arith);
     }
 
-  pub runs_more : (runs block : ℕ) {found : Runs} → RunsFound L ws left (min runs (65536 * block + 65536)) found → RunsTo runs found (block + 1)
+  pub runs_more : (runs block : ℕ) {found : Runs} → RunsFound L ws left (min runs (BLOCK * block + BLOCK)) found → RunsTo runs found (block + 1)
   runs_more runs block F = record { so_far = found_at F (omega arith) (omega arith) }
 
-  pub runs_done : {runs block : ℕ} {found : Runs} → RunsTo runs found block → runs ≤ 65536 * block → RunsFound L ws left runs found
+  pub runs_done : {runs block : ℕ} {found : Runs} → RunsTo runs found block → runs ≤ BLOCK * block → RunsFound L ws left runs found
   runs_done T h = found_at T.so_far (omega arith) (omega arith)

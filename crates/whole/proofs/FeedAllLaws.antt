@@ -177,14 +177,10 @@ pub record FedSoFar {A : Type 0} (f : A → Bool) (shape structure : List ℕ) (
   pub one : OneFeed (open_record shape structure) vs fed (map f (take (fed * g.width) cells))
       (with_figures (open_record shape structure) fed figures) now
 
--- all lines, where as many would be too many
-abbrev pub FedUpTo : {A : Type 0} → (A → Bool) → List ℕ → List ℕ → List A → Geo → List ℕ → List ℕ → ℕ → Figures → Type 0
-FedUpTo f shape structure cells g vs now fed figures = FedSoFar f shape structure cells g vs now (min fed g.lines) figures
-
 -- no line yet
-begin : {A : Type 0} (f : A → Bool) {shape structure : List ℕ} {cells : List A} {g : Geo} {vs : List ℕ}
+pub all_begin : {A : Type 0} (f : A → Bool) {shape structure : List ℕ} {cells : List A} {g : Geo} {vs : List ℕ}
     → Opened shape structure cells g vs → {figures : Figures} → figures ≡ zero_figures → FedSoFar f shape structure cells g vs vs 0 figures
-begin f {shape = shape} {structure = structure} {g = g} {vs = vs} O is =
+all_begin f {shape = shape} {structure = structure} {g = g} {vs = vs} O is =
     rw is (record { opened = O; within = omega arith; one = rw (zero-mul g.width) no_lines })
   where
     s : Session
@@ -196,37 +192,8 @@ begin f {shape = shape} {structure = structure} {g = g} {vs = vs} O is =
     no_lines : OneFeed s vs 0 [] s vs
     no_lines = record { whole = G.whole; session = sym (record_none s vs [] G); words = words_none s vs [] G }
 
-pub all_begin : {A : Type 0} (f : A → Bool) {shape structure : List ℕ} {cells : List A} {g : Geo} {vs : List ℕ}
-    → Opened shape structure cells g vs → {figures : Figures} → figures ≡ zero_figures → FedUpTo f shape structure cells g vs vs 0 figures
-all_begin f {shape} {structure} {cells} {g} {vs} O {figures} is =
-    subst (λ (n : ℕ). FedSoFar f shape structure cells g vs vs n figures) (omega arith) (begin f O is)
-
--- all lines are fed
 module _ {A : Type 0} {f : A → Bool} {shape structure : List ℕ} {cells : List A} {g : Geo} {vs now : List ℕ} {fed : ℕ} {figures : Figures}
     (I : FedSoFar f shape structure cells g vs now fed figures) where
-  -- the record of the opening
-  abbrev of : Session
-  of = open_record shape structure
-
-  pub all_end : g.lines ≤ fed → FeedDone of vs (lines shape) (map f cells) (with_figures of g.lines figures) now
-  all_end h = record {
-    session = subst (λ (n : ℕ). with_figures of g.lines figures ≡ feed_record of vs n (map f cells)) (lines_are I.opened) all.session;
-    words = subst (λ (n : ℕ). FeedWords of vs n (map f cells) now) (lines_are I.opened) all.words;
-  }
-    where
-      last : fed ≡ g.lines
-      last = omega (arith, h, I.within)
-
-      all : OneFeed of vs g.lines (map f cells) (with_figures of g.lines figures) now
-      all =
-          let enough : length cells ≤ g.lines * g.width = omega (arith, cells_are I.opened) in
-          subst (λ (cs : List A). OneFeed of vs g.lines (map f cs) (with_figures of g.lines figures) now)
-          (take_all (g.lines * g.width) cells enough)
-          (subst (λ (n : ℕ). OneFeed of vs n (map f (take (n * g.width) cells)) (with_figures of n figures) now) last I.one)
-
--- a line is left
-module _ {A : Type 0} {f : A → Bool} {shape structure : List ℕ} {cells : List A} {g : Geo} {vs now : List ℕ} {fed : ℕ} {figures : Figures}
-    (J : FedUpTo f shape structure cells g vs now fed figures) (left : fed < g.lines) where
   abbrev w : ℕ
   w = g.width
 
@@ -240,23 +207,36 @@ module _ {A : Type 0} {f : A → Bool} {shape structure : List ℕ} {cells : Lis
   abbrev s : Session
   s = with_figures s₀ fed figures
 
-  I : FedSoFar f shape structure cells g vs now fed figures
-  I = subst (λ (n : ℕ). FedSoFar f shape structure cells g vs now n figures) (omega (arith, left)) J
-
   few₀ : fed ≤ lines_of s₀ - s₀.fed
   few₀ = omega (arith, I.within, lines₀ I.opened)
 
   S : Sound s now
   S = between_sound s₀ vs I.opened.is_sound fed (map f (take (fed * w) cells)) s now few₀ I.one
 
-  -- and k more are fed
+  -- all lines are fed
+  pub all_end : L ≤ fed → FeedDone s₀ vs (lines shape) (map f cells) (with_figures s₀ L figures) now
+  all_end h = record {
+    session = subst (λ (n : ℕ). with_figures s₀ L figures ≡ feed_record s₀ vs n (map f cells)) (lines_are I.opened) all.session;
+    words = subst (λ (n : ℕ). FeedWords s₀ vs n (map f cells) now) (lines_are I.opened) all.words;
+  }
+    where
+      last : fed ≡ L
+      last = omega (arith, h, I.within)
+
+      all : OneFeed s₀ vs L (map f cells) (with_figures s₀ L figures) now
+      all =
+          let enough : length cells ≤ L * w = omega (arith, cells_are I.opened) in
+          subst (λ (cs : List A). OneFeed s₀ vs L (map f cs) (with_figures s₀ L figures) now) (take_all (L * w) cells enough)
+          (subst (λ (n : ℕ). OneFeed s₀ vs n (map f (take (n * w) cells)) (with_figures s₀ n figures) now) last I.one)
+
+  -- and then k more
   module _ (k most : ℕ) (least : k ≡ min most (L - fed)) where
     below : fed + k ≤ L
     below = omega (arith, least, I.within)
 
     -- a block has lines, so that fewer are left
-    pub all_less : (B : ℕ) → most ≡ block_lines L B → L - (fed + most) < L - fed
-    all_less B e = omega (arith, left, e, block_some L B (all_lines I.opened).0)
+    pub all_less : (B : ℕ) → most ≡ block_lines L B → fed < L → L - (fed + k) < L - fed
+    all_less B e h = omega (arith, least, e, h, block_some L B (all_lines I.opened).0)
 
     -- their cells, as they are lent
     abbrev more : List Bool
@@ -313,20 +293,42 @@ module _ {A : Type 0} {f : A → Bool} {shape structure : List ℕ} {cells : Lis
             ∙ ap (map f) (sym (take-add (fed * w) (k * w) cells) ∙ ap (λ (m : ℕ). take m cells) (sym (add-mul fed k w)))
 
         pub all_then : {figures₂ : Figures} → figures₂ ≡ plus_figures figures (record { runs = c.runs; joins = t; cells = c.cells })
-            → FedUpTo f shape structure cells g vs ws₂ (fed + most) figures₂
-        all_then {figures₂} is = subst (λ (n : ℕ). FedSoFar f shape structure cells g vs ws₂ n figures₂) reached (record {
+            → FedSoFar f shape structure cells g vs ws₂ (fed + k) figures₂
+        all_then {figures₂} is = record {
           opened = I.opened;
           within = below;
           one = subst (λ (cs : List Bool). OneFeed s₀ vs (fed + k) cs s₂ ws₂) parts
               (one_more s₀ vs I.opened.is_sound fed (map f (take (fed * w) cells)) s now few₀ I.one k more s₂ ws₂
               (omega (arith, below, lines₀ I.opened)) (record { whole = G₁.whole; session = D.session; words = D.words }));
-        })
+        }
           where
-            reached : fed + k ≡ min (fed + most) L
-            reached = omega (arith, least, I.within)
-
             s₂ : Session
             s₂ = with_figures s₀ (fed + k) figures₂
 
             D : FeedDone s now k more s₂ ws₂
             D = feed_done s now k more g ws₁ c X (long₀ I.opened) ws₂ t (united₀ I.opened U) is
+
+-- ---- the same in steps of a block, of which the last may be too large
+
+-- all lines, where as many would be too many
+abbrev pub FedUpTo : {A : Type 0} → (A → Bool) → List ℕ → List ℕ → List A → Geo → List ℕ → List ℕ → ℕ → Figures → Type 0
+FedUpTo f shape structure cells g vs now fed figures = FedSoFar f shape structure cells g vs now (min fed g.lines) figures
+
+module _ {A : Type 0} {f : A → Bool} {shape structure : List ℕ} {cells : List A} {g : Geo} {vs : List ℕ} where
+  pub step_begin : Opened shape structure cells g vs → {figures : Figures} → figures ≡ zero_figures
+      → FedUpTo f shape structure cells g vs vs 0 figures
+  step_begin O {figures} is = subst (λ (n : ℕ). FedSoFar f shape structure cells g vs vs n figures) (omega arith) (all_begin f O is)
+
+  -- a line is left
+  module _ {now : List ℕ} {fed : ℕ} {figures : Figures} (J : FedUpTo f shape structure cells g vs now fed figures) (left : fed < g.lines) where
+    pub so_far : FedSoFar f shape structure cells g vs now fed figures
+    so_far = subst (λ (n : ℕ). FedSoFar f shape structure cells g vs now n figures) (omega (arith, left)) J
+
+    pub step_less : (most B : ℕ) → most ≡ block_lines g.lines B → g.lines - (fed + most) < g.lines - fed
+    step_less most B e = omega (arith, left, e, block_some g.lines B (all_lines so_far.opened).0)
+
+    -- so k lines more, those that are left of a block, are a block more
+    pub step_then : (k most : ℕ) → k ≡ min most (g.lines - fed) → {now₂ : List ℕ} {figures₂ : Figures}
+        → FedSoFar f shape structure cells g vs now₂ (fed + k) figures₂ → FedUpTo f shape structure cells g vs now₂ (fed + most) figures₂
+    step_then k most least {now₂} {figures₂} J₂ =
+        subst (λ (n : ℕ). FedSoFar f shape structure cells g vs now₂ n figures₂) (omega (arith, least, left)) J₂

@@ -17,7 +17,7 @@ use Rattle.label.specs.Held.{root_count}
 use Rattle.label.specs.Reading.{read_cause_of}
 use Rattle.label.proofs.SoundLaws.{right_sound, n_roots}
 use Rattle.label.proofs.AcceptedLaws.{read_promise}
-use Rattle.label.proofs.RefusedLaws.{refused_read}
+use Rattle.label.proofs.RefusedLaws.{refused_reading}
 use Rattle.label.proofs.RecordGeometry.{geo_lines, geo_width}
 use Rattle.label.proofs.WrittenNumbers.{write_ready, written_numbers}
 use Rattle.label.proofs.FitLaws.{joins_fit}
@@ -88,7 +88,7 @@ module _ {f : FedFrame} {ws : List ℕ} where
 
   module _ (kind : Number) {out : List (Value kind)} where
     pub number_ten : largest kind < count_of f → Numbers kind f ws out (refused 10) ws out
-    number_ten h s F = refused_read kind (fed_record s f) ws out C.Kind (cause_ten F kind h) refl
+    number_ten h s F = refused_reading kind (fed_record s f) ws out C.Kind (cause_ten F kind h) refl
 
     pub number_done : count_of f ≤ largest kind → {ws' : List ℕ} {out' : List (Value kind)}
         → LinesWritten kind f.geo.lines f.geo.width f.geo.lines ws ws' out out'

@@ -6,4 +6,4 @@ use Rattle.overlay.specs.Writers.{Writes}
 use Rattle.caller.proofs.put_output.Given as goal
 
 abbrev pub invariant-loop-x : goal.invariant-loop-x
-invariant-loop-x g l = Writes (map g.T.FromU32.value (take l.x-index l.out)) l.initial.answers l.answers
+invariant-loop-x g l = Writes (map g.T.FromU32.value (take l.x-index l.out)) l.initial.writer l.writer
