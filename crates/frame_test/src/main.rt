@@ -54,7 +54,8 @@ impl Right {
         }
     }
 
-    // With so many cells given.
+    // With so many cells given. Not inlined, nor are the two below: their words are not on the stack of those that call them.
+    #[inline(never)]
     fn of(frame: Frame, cells: usize, call: WholeCall) -> Right {
         let exact = frame.extent.cells(frame.extent.lines);
         if cells != exact {
@@ -67,6 +68,7 @@ impl Right {
     }
 
     // Whether this is what a call answers and leaves. `laid` takes over from the words what is free.
+    #[inline(never)]
     fn comes_of(&mut self, given: Frame, call: WholeCall) -> bool {
         let mut words = Words::unwritten(given.extent);
         let lent = lend(&mut words.all, given.extent.words_needed());
@@ -93,6 +95,7 @@ fn try_call(frame: Frame, cells: usize, call: WholeCall, counts: &mut Counts) {
 }
 
 // With a structure made lopsided, whatever cells and places are given.
+#[inline(never)]
 fn try_lopsided(given: Frame, call: WholeCall, counts: &mut Counts) {
     let blocks = below(counts.tally.draw(), 4);
     let mut right = Right::unwritten(given, Cause::Lopsided);

@@ -352,7 +352,8 @@ fn damaged_record(bad: &Tested, lines: usize, damage: Damage, x: u64) -> Session
     }
 }
 
-// One damage, if it breaks a clause here or is none.
+// One damage, if it breaks a clause here or is none. Not inlined, so that its copy is not on the stack while the session is made.
+#[inline(never)]
 fn try_damage(tested: &Tested, frame: Frame, damage: Damage, counts: &mut Counts) {
     let mut bad = *tested;
     let broken = damage_memory(&mut bad, damage, counts);
@@ -380,7 +381,9 @@ fn try_damage(tested: &Tested, frame: Frame, damage: Damage, counts: &mut Counts
     counts.tally.count(None, !broken || bad.words == bad.laid);
 }
 
-// A session with some lines fed, and every damage in turn.
+// A session with some lines fed, and every damage in turn. No function that makes a session for main is inlined there, so that main's
+// stack does not hold the words of them all.
+#[inline(never)]
 pub fn try_damaged(frame: Frame, counts: &mut Counts) {
     let lines = below(counts.tally.draw(), frame.extent.lines.wrapping_add(1));
     match Tested::fed(frame, lines) {

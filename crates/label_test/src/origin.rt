@@ -136,6 +136,7 @@ fn try_record(
 }
 
 // Feeds a session some lines, makes a record of other origin of it, and tries that; at least one line follows, if there is one.
+#[inline(never)]
 pub fn try_origin(frame: Frame, counts: &mut Counts) {
     let x = counts.tally.draw();
     let lines = frame.extent.lines;

@@ -61,6 +61,7 @@ fn try_call(tested: &mut Tested, frame: Frame, counts: &mut Counts) {
 }
 
 // Opens with exactly the words needed, and makes a dozen calls.
+#[inline(never)]
 pub fn try_calls(frame: Frame, counts: &mut Counts) {
     add(&mut counts.sessions);
     match Tested::open(frame, frame.extent.words_needed()) {
@@ -90,6 +91,7 @@ fn size_line(tested: &mut Tested, frame: Frame, counts: &mut Counts) {
 }
 
 // A whole frame, in words that hold anything.
+#[inline(never)]
 pub fn try_lines(frame: Frame, counts: &mut Counts) {
     match Tested::open(frame, flood::layout::WORDS) {
         Ok(mut tested) => {

@@ -158,8 +158,8 @@ impl Tested {
         turn
     }
 
-    // A change to this frame's structure, that should be refused with this cause, if there is one. The runs of the lines fed are laid out by
-    // the frame's own cells; names stand.
+    // A change to this frame's structure, that should be refused with this cause, if there is one. The runs of the lines fed are laid out
+    // by the frame's own cells; names stand.
     pub fn change(&mut self, frame: Frame, cause: Option<Cause>) -> Turn {
         let done = self.session.widen(&mut self.words.all, frame.structure);
         let lines = self.session.fed;
