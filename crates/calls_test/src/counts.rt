@@ -2,7 +2,6 @@
 use crate::plain::{Plain, Refusal};
 use crate::random::Call;
 use causes::Cause;
-use std::io;
 use trial::{Tally, add, report};
 
 #[derive(Drop)]
@@ -77,7 +76,7 @@ impl Counts {
         }
     }
 
-    pub fn report(&self, rt: &impl Print) -> io::Result<()> {
+    pub fn report(&self, rt: &impl Print) {
         let accepted = self.tally.accepted();
         report(
             rt,
@@ -90,11 +89,11 @@ impl Counts {
                 ("  after the last", self.late),
                 ("openings and calls accepted", accepted),
             ],
-        )?;
-        self.tally.report_refused(rt, &REFUSED)?;
-        report(rt, &[("no calls", self.no_calls)])?;
+        );
+        self.tally.report_refused(rt, &REFUSED);
+        report(rt, &[("no calls", self.no_calls)]);
         self.tally
-            .report_refused(rt, &[Cause::Lopsided, Cause::NotWider])?;
-        self.tally.report_outcome(rt)
+            .report_refused(rt, &[Cause::Lopsided, Cause::NotWider]);
+        self.tally.report_outcome(rt);
     }
 }

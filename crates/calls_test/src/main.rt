@@ -132,6 +132,5 @@ fn main(rt: HostRuntime) {
     for _ in 0..400 {
         try_list(&mut counts);
     }
-    // Where the report can't be written, nobody can read it, and the status stays 0.
-    let _ = counts.report(&rt);
+    counts.report(&rt);
 }

@@ -7,7 +7,6 @@ use flood::layout::{UNREAD, Words};
 use flood::{CELLS, Frame, Groups, begins_with};
 use label::Counted;
 use samples::{below, first, lend, near, next};
-use std::io;
 use trial::{CellKind, Labelled, NumberKind, Tally, WholeCall, add, report};
 
 // ---- against the flood fill
@@ -166,16 +165,16 @@ struct Counts {
 }
 
 impl Counts {
-    fn report(&self, rt: &impl Print) -> io::Result<()> {
+    fn report(&self, rt: &impl Print) {
         report(
             rt,
             &[("whole frames, one for each block count", self.frames)],
-        )?;
-        self.tally.report_frames(rt)?;
-        self.tally.report_kinds(rt)?;
+        );
+        self.tally.report_frames(rt);
+        self.tally.report_kinds(rt);
         let refused = [Cause::Cells, Cause::Length, Cause::Kind, Cause::Lopsided];
-        self.tally.report_refused(rt, &refused)?;
-        self.tally.report_outcome(rt)
+        self.tally.report_refused(rt, &refused);
+        self.tally.report_outcome(rt);
     }
 }
 
@@ -188,6 +187,5 @@ fn main(rt: HostRuntime) {
     for _ in 0..4000 {
         try_frame(&mut counts);
     }
-    // Where the report can't be written, nobody can read it, and the status stays 0.
-    let _ = counts.report(&rt);
+    counts.report(&rt);
 }

@@ -1,7 +1,6 @@
 // What was tried, and how it is printed.
 use crate::tested::{Call, Turn};
 use causes::Cause;
-use std::io;
 use trial::{OutputKind, Tally, add, report};
 
 #[derive(Drop)]
@@ -104,7 +103,7 @@ impl Counts {
         self.tally.count(Some(cause), false);
     }
 
-    pub fn report(&self, rt: &impl Print) -> io::Result<()> {
+    pub fn report(&self, rt: &impl Print) {
         report(
             rt,
             &[
@@ -112,15 +111,15 @@ impl Counts {
                 ("feeds", self.feeds),
                 ("readings and size calls", self.readings),
             ],
-        )?;
-        self.tally.report_frames(rt)?;
-        self.tally.report_kinds(rt)?;
-        self.report_records(rt)?;
-        self.tally.report_refused(rt, &REFUSED)?;
-        self.tally.report_outcome(rt)
+        );
+        self.tally.report_frames(rt);
+        self.tally.report_kinds(rt);
+        self.report_records(rt);
+        self.tally.report_refused(rt, &REFUSED);
+        self.tally.report_outcome(rt);
     }
 
-    fn report_records(&self, rt: &impl Print) -> io::Result<()> {
+    fn report_records(&self, rt: &impl Print) {
         report(
             rt,
             &[
@@ -144,6 +143,6 @@ impl Counts {
                 ),
                 ("damaged records and memories", self.damaged),
             ],
-        )
+        );
     }
 }

@@ -30,6 +30,5 @@ fn main(rt: HostRuntime) {
     for _ in 0..4000 {
         try_frame(&mut counts);
     }
-    // Where the report can't be written, nobody can read it, and the status stays 0.
-    let _ = counts.report(&rt);
+    counts.report(&rt);
 }

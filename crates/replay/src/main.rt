@@ -24,7 +24,7 @@ use cells::Written;
 use flood::layout::UNREAD;
 use flood::{CELLS, Frame};
 use label::Counted;
-use std::io::{self, Read, Write};
+use std::io::{Read, Write};
 use stored::{Fields, Said, Stored, number};
 use trial::{CellKind, Labelled, WholeCall, add, add_at, label_cells};
 
@@ -144,17 +144,17 @@ impl Counts {
         }
     }
 
-    fn report(&self, rt: &impl Print) -> io::Result<()> {
-        println!(rt; "answers={}", self.answers)?;
-        println!(rt; "agreed={}", self.agreed)?;
-        println!(rt; "differed={}", self.differed)?;
-        println!(rt; "malformed={}", self.malformed)?;
+    fn report(&self, rt: &impl Print) {
+        let _ = println!(rt; "answers={}", self.answers);
+        let _ = println!(rt; "agreed={}", self.agreed);
+        let _ = println!(rt; "differed={}", self.differed);
+        let _ = println!(rt; "malformed={}", self.malformed);
         for (i, count) in self.ranks.iter().enumerate() {
-            println!(rt; "rank{}={count}", i.wrapping_add(1))?;
+            let _ = println!(rt; "rank{}={count}", i.wrapping_add(1));
         }
-        println!(rt; "none={}", self.declined)?;
-        println!(rt; "first_differed={}", self.first_differed.unwrap_or(0))?;
-        println!(rt; "first_malformed={}", self.first_malformed.unwrap_or(0))
+        let _ = println!(rt; "none={}", self.declined);
+        let _ = println!(rt; "first_differed={}", self.first_differed.unwrap_or(0));
+        let _ = println!(rt; "first_malformed={}", self.first_malformed.unwrap_or(0));
     }
 }
 
@@ -201,5 +201,5 @@ fn main(rt: HostRuntime) {
     let mut words = [7u32; WORDS];
     let mut counts = Counts::default();
     count_all(&mut rt.reader(), &mut words, &mut counts);
-    let _ = counts.report(&rt);
+    counts.report(&rt);
 }
